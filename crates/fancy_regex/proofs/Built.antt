@@ -17,7 +17,7 @@ use Rattle.fancy_pattern.specs.declared.error.PatternError.{PatternError}
 use Rattle.fancy_pattern.specs.declared.error.PatternError.TheVariants as of_parser
 use Rattle.fancy_pattern.specs.Spelling.{IsError}
 use Rattle.fancy_matches.proofs.Stepping.{of_same}
-use Rattle.fancy_regex.specs.Builders.{AreNamesOf, IsBuilt, IsMadeOf, IsRefused, IsTreeOf}
+use Rattle.fancy_regex.specs.Builders.{AreNamesOf, IsBuilt, IsMadeOf, IsRefused, IsTreeWithin}
 use Rattle.fancy_regex.specs.Errors.{engine_error, limit_told, of_pattern}
 use Rattle.fancy_regex.specs.Options.{analysis, compilation, input, limits, running}
 use Rattle.fancy_regex.specs.Regexes.{IsSame, engine_of}
@@ -66,7 +66,7 @@ module _ (asked : RegexOptions) (tree : ExprTree) where
         (subst (λ k. ¬ IsNestedOver (record { parsed = parsed_of tree; analysis = a; options = k }) asked.max_nesting) as_compiled
         (subst (λ m. ¬ IsNestedOver (record { parsed = parsed_of tree; analysis = a; options = k }) m) as_nested h))
 
-  module _ (pattern : List ℕ) (spelled : IsTreeOf pattern asked tree) where
+  module _ (pattern : List ℕ) (spelled : IsTreeWithin pattern asked tree) where
     pub built : (r : engine_regex.Regex) → ((text : List ℕ) → engine.IsRegexOf (input tree asked) text (running asked text) r) →
         (asked.backtrack_limit ≡ None → asked.step_limit ≡ 2 ^ 64 - 1 → engine.HasNoLimits r) → ¬ IsNestedOver (input tree asked) asked.max_nesting →
         (r.options).limits ≡ limits asked →
@@ -74,7 +74,8 @@ module _ (asked : RegexOptions) (tree : ExprTree) where
         MatchResult result (IsMadeOf pattern asked tree r) (λ e. e ≡ face.Memory) → MatchResult result (IsBuilt pattern asked) (IsRefused pattern asked)
     built r of unlimited within limited (Ok s) made = record {
       tree = tree;
-      spelled = spelled;
+      spelled = spelled.spelled;
+      analysed_within = spelled.within;
       compiled = λ text. subst (engine.IsRegexOf (input tree asked) text (running asked text)) (sym made.compiled) (of text);
       within = within;
       unlimited = λ backtracks steps. subst engine.HasNoLimits (sym made.compiled) (unlimited backtracks steps);
@@ -88,9 +89,10 @@ module _ (asked : RegexOptions) (tree : ExprTree) where
     pub refused : (e : Error) → limit_told e ≡ None → IsRefusedAs (input tree asked) asked.max_nesting (engine_error e) →
         IsRefused pattern asked e
     refused (face.ParseError at kind) none h = absurd h
-    refused (face.CompileError e) none h = record { tree = tree; spelled = spelled; refused = h }
+    refused (face.CompileError e) none h = record { tree = tree; spelled = spelled.spelled; analysed_within = spelled.within; refused = h }
     refused (face.RuntimeError e) none h = h
-    refused face.NestLimitExceeded none h = record { tree = tree; spelled = spelled; refused = h }
+    refused face.NestLimitExceeded none h = record { tree = tree; spelled = spelled.spelled; analysed_within = spelled.within; refused = h }
+    refused face.AnalysisLimitExceeded none h = absurd h
     refused face.VisitLimitExceeded none h = absurd (none-some limit.Visits (sym none))
     refused face.MemoryLimitExceeded none h = absurd (none-some limit.Bytes (sym none))
     refused face.Memory none h = tt
@@ -106,6 +108,7 @@ pub built_of_same : (pattern : List ℕ) (o : RegexOptions) (r s : Regex) → Is
 built_of_same pattern o r s same h = record {
   tree = h.tree;
   spelled = h.spelled;
+  analysed_within = h.analysed_within;
   compiled = λ text. of_same (engine_of r) (engine_of s) (input h.tree o) text (running o text) same.engine (h.compiled text);
   within = h.within;
   unlimited = λ backtracks steps.

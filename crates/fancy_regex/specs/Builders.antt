@@ -12,7 +12,7 @@ use Rattle.fancy_pattern.specs.declared.options.ParseOptions.{ParseOptions}
 use Rattle.fancy_search.specs.Searches.{IsNestedOver, IsRefusedAs}
 use Rattle.fancy_regex.specs.Errors.{engine_error}
 use Rattle.fancy_regex.specs.Names.{group_count, names_in}
-use Rattle.fancy_regex.specs.Options.{default_options, input, limits, running}
+use Rattle.fancy_regex.specs.Options.{PassesAnalysisLimit, default_options, input, limits, running}
 use Rattle.fancy_regex.specs.Regexes.{IsRegexOf, engine_of, names_of, options_of, pattern_of}
 use Rattle.fancy_regex.specs.declared.builder.RegexBuilder.{RegexBuilder}
 use Rattle.fancy_regex.specs.declared.error.Error.{Error}
@@ -55,6 +55,11 @@ module _ (pattern : List ℕ) (o : RegexOptions) where
     pub spelled : spelling.IsTreeOf o.parsing (chars pattern) t
     pub well_formed : IsWellFormedTree t
 
+  -- the same, and its analysis stands within the limit
+  pub record IsTreeWithin (t : ExprTree) : Type 0 where
+    pub spelled : IsTreeOf t
+    pub within : ¬ PassesAnalysisLimit o.analysis_limit t
+
   -- it has this pattern and these options, the names of this tree, and what this was compiled to
   pub record IsMadeOf (tree : ExprTree) (engine : compiled_regex.Regex) (r : Regex) : Type 0 where
     pub has_pattern : pattern_of r ≡ pattern
@@ -67,7 +72,8 @@ module _ (pattern : List ℕ) (o : RegexOptions) where
     pub tree : ExprTree
     pub spelled : IsTreeOf tree
     pub compiled : (text : List ℕ) → IsRegexOf (input tree o) text (running o text) r
-    -- the tree stands within the limit of nesting
+    -- the tree stands within the limits of the analysis and of nesting
+    pub analysed_within : ¬ PassesAnalysisLimit o.analysis_limit tree
     pub within : ¬ IsNestedOver (input tree o) o.max_nesting
     -- where no limit of backtracks or instructions was asked it has none
     pub unlimited : o.backtrack_limit ≡ None → o.step_limit ≡ 2 ^ 64 - 1 → HasNoLimits (engine_of r)
@@ -77,18 +83,26 @@ module _ (pattern : List ℕ) (o : RegexOptions) where
     pub has_pattern : pattern_of r ≡ pattern
     pub has_options : options_of r ≡ o
 
-  -- a tree that the pattern spells is refused with this error
+  -- a tree that the pattern spells passes the limit of the analysis
+  pub record IsOverAnalysisLimit : Type 0 where
+    pub tree : ExprTree
+    pub spelled : IsTreeOf tree
+    pub passed : PassesAnalysisLimit o.analysis_limit tree
+
+  -- a tree that the pattern spells, and whose analysis stands within the limit, is refused with this error
   pub record IsRefusedTree (e : Error) : Type 0 where
     pub tree : ExprTree
     pub spelled : IsTreeOf tree
+    pub analysed_within : ¬ PassesAnalysisLimit o.analysis_limit tree
     pub refused : IsRefusedAs (input tree o) o.max_nesting (engine_error e)
 
-  -- The pattern has this fault; the tree that it spells is refused; or memory was.
+  -- The pattern has this fault; the tree that it spells passes the limit of the analysis, or is refused; or memory was.
   abbrev pub IsRefused : Error → Type 0
   IsRefused (face.ParseError at kind) = spelling.IsError o.parsing (chars pattern) (of_parser.Parse at kind)
   IsRefused (face.CompileError e) = IsRefusedTree (face.CompileError e)
   IsRefused (face.RuntimeError e) = ⊥
   IsRefused face.NestLimitExceeded = IsRefusedTree face.NestLimitExceeded
+  IsRefused face.AnalysisLimitExceeded = IsOverAnalysisLimit
   IsRefused face.VisitLimitExceeded = ⊥
   IsRefused face.MemoryLimitExceeded = ⊥
   IsRefused face.Memory = Unit {0}

@@ -10,13 +10,14 @@ use Rattle.fancy_pattern.specs.declared.error.PatternError.TheVariants as of_par
 use Rattle.fancy_regex.specs.declared.error.Error.{Error}
 use Rattle.fancy_regex.specs.declared.error.Error.TheVariants as face
 
--- The error as the engine has it, to which a limit inside easy parts is want of memory. The engine reads no pattern: no
--- search answers what stands for a `ParseError`.
+-- The error as the engine has it, to which a limit inside easy parts is want of memory. The engine reads no pattern, and
+-- asks no limit of the analysis: no search answers what stands for a `ParseError` or for `AnalysisLimitExceeded`.
 abbrev pub engine_error : Error → engine.Error
 engine_error (face.ParseError at kind) = of_engine.TreeFault at
 engine_error (face.CompileError e) = of_engine.CompileError e
 engine_error (face.RuntimeError e) = of_engine.RuntimeError e
 engine_error face.NestLimitExceeded = of_engine.NestLimitExceeded
+engine_error face.AnalysisLimitExceeded = of_engine.TreeFault 0
 engine_error face.VisitLimitExceeded = of_engine.Memory
 engine_error face.MemoryLimitExceeded = of_engine.Memory
 engine_error face.Memory = of_engine.Memory
@@ -58,6 +59,7 @@ error_text (face.ParseError at kind) = Some (pattern.error_text (of_parser.Parse
 error_text (face.CompileError e) = None
 error_text (face.RuntimeError e) = None
 error_text face.NestLimitExceeded = Some (codes "the pattern nests deeper than the limit")
+error_text face.AnalysisLimitExceeded = Some (codes "the groups refer to one another too often")
 error_text face.VisitLimitExceeded = Some (codes "too many states were visited")
 error_text face.MemoryLimitExceeded = Some (codes "too much memory was held")
 error_text face.Memory = Some (codes "memory ran out")

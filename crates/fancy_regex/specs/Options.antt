@@ -1,10 +1,11 @@
 -- What the options of a regex ask for: how its pattern is read, how its tree is analysed and compiled, and how it is
 -- searched for.
-use Rattle.std.specs.Prelude.{◌-◌, ◌^◌, ℕ, true, false, List, None, Some}
+use Rattle.std.specs.Prelude.{◌-◌, ◌^◌, ◌<◌, ℕ, true, false, List, Option, None, Some}
 use Rattle.fancy_meaning.specs.Options as plain
 use Rattle.fancy_meaning.specs.Premises.{Input}
 use Rattle.fancy_expr.specs.Views.{parsed_of}
 use Rattle.fancy_expr.specs.declared.expr.ExprTree.{ExprTree}
+use Rattle.fancy_analysis.specs.Lookups.{size_lookups}
 use Rattle.fancy_matches.specs.Listing.{backtracks_for}
 use Rattle.fancy_steps.specs.declared.search_limits.SearchLimits.{SearchLimits}
 use Rattle.fancy_pattern.specs.Options.{default_parsing}
@@ -18,11 +19,17 @@ default_options = record {
   longest = false;
   max_prog_size = Some 100_000;
   max_nesting = Some 500;
+  analysis_limit = Some 20_000_000;
   backtrack_limit = None;
   step_limit = 2 ^ 64 - 1;
   visit_limit = Some 100_000_000;
   memory_limit = Some 268_435_456;
 }
+
+-- the analysis of the tree looks up sizes of groups more often than the limit allows
+abbrev pub PassesAnalysisLimit : Option ℕ → ExprTree → Type 0
+PassesAnalysisLimit None t = ⊥
+PassesAnalysisLimit (Some limit) t = limit < size_lookups t
 
 -- how the tree is analysed
 abbrev pub analysis : RegexOptions → plain.AnalysisOptions

@@ -20,7 +20,7 @@ use Rattle.fancy_matches.specs.Regexes as found
 use Rattle.fancy_regex.specs.Builders.{AreNamesOf, IsTreeOf}
 use Rattle.fancy_regex.specs.Errors.{engine_error}
 use Rattle.fancy_regex.specs.Found.{captures_names, shown_captures}
-use Rattle.fancy_regex.specs.Options.{input, limits, running}
+use Rattle.fancy_regex.specs.Options.{PassesAnalysisLimit, input, limits, running}
 use Rattle.fancy_regex.specs.declared.error.Error.{Error}
 use Rattle.fancy_regex.specs.declared.found.Captures.{Captures}
 use Rattle.fancy_regex.specs.declared.names.GroupNames.{GroupNames}
@@ -37,10 +37,11 @@ use Rattle.fancy_regex.specs.declared.scanner.Scanner.{Scanner}
 abbrev pub rule_for : ExprTree → RegexOptions → List ℕ → Rule
 rule_for tree o text = record { input = input tree o; options = running o text; limits = limits o }
 
--- it was compiled from the tree that the pattern spells, and has its names
+-- it was compiled from the tree that the pattern spells, whose analysis stands within its limit, and has its names
 pub record IsScanPattern (pattern : List ℕ) (o : RegexOptions) (p : ScanPattern) : Type 0 where
   pub tree : ExprTree
   pub spelled : IsTreeOf pattern o tree
+  pub analysed_within : ¬ PassesAnalysisLimit o.analysis_limit tree
   pub compiled : (text : List ℕ) → trees.IsTreeOf (rule_for tree o text) text p.compiled
   pub names : AreNamesOf tree (arc_value p.names)
 
@@ -58,10 +59,12 @@ names_listed s = map arc_value s.names.items
 abbrev pub IsScannerOf : List Rule → List ℕ → Scanner → Type 0
 IsScannerOf rules text s = trees.IsScannerOf rules text (trees_in s)
 
--- It has one more pattern, after the others: the rule of the tree that this spells, and its names.
+-- It has one more pattern, after the others: the rule of the tree that this spells, whose analysis stands within its limit,
+-- and its names.
 pub record Adds (pattern : List ℕ) (o : RegexOptions) (s t : Scanner) : Type 0 where
   pub tree : ExprTree
   pub spelled : IsTreeOf pattern o tree
+  pub analysed_within : ¬ PassesAnalysisLimit o.analysis_limit tree
   pub rules : (text : List ℕ) (rules : List Rule) → IsScannerOf rules text s →
       IsScannerOf (rules ++ rule_for tree o text ∷ []) text t
   pub group_names : GroupNames

@@ -2,7 +2,7 @@
 
 ghost use Rattle.std.specs.Prelude.{◌≡◌, ◌≤◌, MatchResult, Some};
 ghost use Rattle.fancy_meaning.specs.WellFormed.{most_groups};
-ghost use Rattle.fancy_regex.specs.Builders.{AreNamesOf, IsBuilt, IsMadeOf, IsRefused, IsTreeOf, default_builder, options, parsing, with_options, with_parsing};
+ghost use Rattle.fancy_regex.specs.Builders.{AreNamesOf, IsBuilt, IsMadeOf, IsRefused, IsTreeOf, IsTreeWithin, default_builder, options, parsing, with_options, with_parsing};
 ghost use Rattle.fancy_regex.specs.Scanners.{IsScanPattern};
 
 use crate::error::Error;
@@ -206,6 +206,23 @@ impl<'p> RegexBuilder<'p> {
         }
     }
 
+    /// How often the analysis of the pattern may look up the size of a group, or with `None` any number of times. Unless
+    /// set it is 20,000,000. Each back reference and each call counts once for each group of the pattern, and once more.
+    /// A pattern that takes more is refused as `Error::AnalysisLimitExceeded`, before it is analysed.
+    #[must_use]
+    pub fn analysis_limit(self, limit: Option<usize>) -> RegexBuilder<'p>
+        ensures { result ≡ with_options self.entry
+            (record (options self.entry) { analysis_limit = limit }) }
+    {
+        RegexBuilder {
+            pattern: self.pattern,
+            options: RegexOptions {
+                analysis_limit: limit,
+                ..self.options
+            },
+        }
+    }
+
     /// How many states a search may visit in plain parts of the pattern, those that are searched without backtracking, or
     /// with `None` any number. Unless set it is 100,000,000. A search that visits more is `Error::VisitLimitExceeded`. It
     /// bounds the work of a search, and with `step_limit` all of it.
@@ -253,9 +270,25 @@ impl<'p> RegexBuilder<'p> {
         }
     }
 
+    /// The tree of the pattern, if its analysis stands within the limit.
+    fn tree_within_limit(&self, alloc: Global) -> Result<ExprTree, Error>
+        ensures { MatchResult
+            result
+            (IsTreeWithin self.now.pattern.now (options self.now))
+            (IsRefused self.now.pattern.now (options self.now)) }
+    {
+        let tree = self.tree(alloc)?;
+        if self.options.passes_analysis_limit(&tree) {
+            Err(Error::AnalysisLimitExceeded)
+        } else {
+            Ok(tree)
+        }
+    }
+
     /// The regex of the pattern with these options.
     ///
-    /// A pattern that cannot be read is an `Error::ParseError`, and one that is refused an `Error::CompileError`, or an
+    /// A pattern that cannot be read is an `Error::ParseError`. One whose groups refer to one another too often is an
+    /// `Error::AnalysisLimitExceeded`, and one that is refused otherwise an `Error::CompileError` or an
     /// `Error::NestLimitExceeded`. Want of memory is `Error::Memory`.
     pub fn build(&self, alloc: Global) -> Result<Regex, Error>
         ensures { MatchResult
@@ -263,7 +296,7 @@ impl<'p> RegexBuilder<'p> {
             (IsBuilt self.now.pattern.now (options self.now))
             (IsRefused self.now.pattern.now (options self.now)) }
     {
-        let tree = self.tree(alloc)?;
+        let tree = self.tree_within_limit(alloc)?;
         let search = self.options.search_options();
         match Engine::new(alloc, &tree, &search, self.options.backtrack_limit) {
             Ok(engine) => {
@@ -296,7 +329,7 @@ impl<'p> RegexBuilder<'p> {
             (IsScanPattern self.now.pattern.now (options self.now))
             (IsRefused self.now.pattern.now (options self.now)) }
     {
-        let tree = self.tree(alloc)?;
+        let tree = self.tree_within_limit(alloc)?;
         let search = self.options.search_options();
         match ScanTree::new(alloc, &tree, &search, self.options.backtrack_limit) {
             Ok(compiled) => {

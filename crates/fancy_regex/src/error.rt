@@ -25,6 +25,8 @@ pub enum Error {
     RuntimeError(RuntimeError),
     /// More nodes of the pattern stand in one another, where they are written out, than the limit allows.
     NestLimitExceeded,
+    /// The groups of the pattern refer to one another more often than `analysis_limit` allows.
+    AnalysisLimitExceeded,
     /// A search visited more states of plain parts of the pattern than `visit_limit` allows.
     VisitLimitExceeded,
     /// A search kept more bytes for plain parts of the pattern, or to fall back, than `memory_limit` allows.
@@ -117,6 +119,9 @@ impl fmt::Display for Error {
             Error::CompileError(error) => write!(f, "{error}"),
             Error::RuntimeError(error) => write!(f, "{error}"),
             Error::NestLimitExceeded => write!(f, "the pattern nests deeper than the limit"),
+            Error::AnalysisLimitExceeded => {
+                write!(f, "the groups refer to one another too often")
+            }
             Error::VisitLimitExceeded => write!(f, "too many states were visited"),
             Error::MemoryLimitExceeded => write!(f, "too much memory was held"),
             Error::Memory => write!(f, "memory ran out"),

@@ -1,15 +1,18 @@
 //! The options of a regex.
 
-ghost use Rattle.std.specs.Prelude.{◌≡◌, ℕ, [], IsTrue, List};
+ghost use Rattle.std.specs.Prelude.{◌≡◌, ℕ, [], IsFalse, IsTrue, List};
+ghost use Rattle.fancy_expr.specs.Sound.{IsWellFormedTree};
 ghost use Rattle.fancy_info.specs.Infos.{analysis_options_of};
 ghost use Rattle.fancy_compile.specs.Compiled.{compile_options_of};
 ghost use Rattle.fancy_steps.specs.Tasks.{options_of as run_options_of};
 ghost use Rattle.fancy_search.specs.Searches.{search_fits};
 ghost use Rattle.fancy_matches.specs.Listing.{options_for};
-ghost use Rattle.fancy_regex.specs.Options.{analysis, compilation, default_options, limits, running};
+ghost use Rattle.fancy_regex.specs.Options.{PassesAnalysisLimit, analysis, compilation, default_options, limits, running};
 
 use fancy_analysis::analyze::AnalyzeContext;
+use fancy_analysis::lookups::is_looked_up_within;
 use fancy_compile::compile::{BytesMode, CompileOptions};
+use fancy_expr::expr::ExprTree;
 use fancy_pattern::options::ParseOptions;
 use fancy_search::search::SearchOptions;
 use fancy_vm::vm::{RunOptions, SearchLimits};
@@ -26,6 +29,8 @@ pub struct RegexOptions {
     pub(crate) max_prog_size: Option<usize>,
     /// How many nodes may stand in one another where they are written out.
     pub(crate) max_nesting: Option<usize>,
+    /// How often the analysis may look up the size of a group.
+    pub(crate) analysis_limit: Option<usize>,
     pub(crate) backtrack_limit: Option<usize>,
     pub(crate) step_limit: u64,
     /// How many states of easy parts a search may visit.
@@ -44,6 +49,7 @@ impl Default for RegexOptions {
             longest: false,
             max_prog_size: Some(100_000),
             max_nesting: Some(500),
+            analysis_limit: Some(20_000_000),
             backtrack_limit: None,
             step_limit: u64::MAX,
             visit_limit: Some(100_000_000),
@@ -53,6 +59,18 @@ impl Default for RegexOptions {
 }
 
 impl RegexOptions {
+    /// The analysis of the tree looks up sizes of groups more often than its limit allows.
+    pub(crate) fn passes_analysis_limit(&self, tree: &ExprTree) -> bool
+        requires { IsWellFormedTree tree.now }
+        ensures passed { IsTrue result → PassesAnalysisLimit self.now.analysis_limit tree.now }
+        ensures within { IsFalse result → ¬ PassesAnalysisLimit self.now.analysis_limit tree.now }
+    {
+        match self.analysis_limit {
+            Some(limit) => !is_looked_up_within(tree, limit),
+            None => false,
+        }
+    }
+
     /// How much the searches of easy parts may take together.
     pub(crate) fn search_limits(&self) -> SearchLimits
         ensures { result ≡ limits self.now }

@@ -34,6 +34,7 @@ fn with<'p>(builder: RegexBuilder<'p>, word: &str) -> RegexBuilder<'p> {
         "step_limit" => builder.step_limit(number(value) as u64),
         "max_prog_size" => builder.max_prog_size(limit(value)),
         "max_nesting" => builder.max_nesting(limit(value)),
+        "analysis_limit" => builder.analysis_limit(limit(value)),
         "visit_limit" => builder.visit_limit(limit(value)),
         "memory_limit" => builder.memory_limit(limit(value)),
         _ => builder,

@@ -11,7 +11,7 @@ use Rattle.fancy_regex.proofs.Built.{built, compiled_so, limited_so, refused, re
 use Rattle.fancy_regex.proofs.builder.RegexBuilder.build.Goals as goal
 
 pub regex_of-requires : goal.regex_of-requires
-regex_of-requires c = ((c.in_ok-tree.ensures.well_formed).0).not_too_many
+regex_of-requires c = ((c.in_ok-tree.ensures.spelled.well_formed).0).not_too_many
 
 pub returns-in-Ok : goal.returns-in-Ok
 returns-in-Ok c =

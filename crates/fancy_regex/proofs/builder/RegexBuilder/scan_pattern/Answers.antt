@@ -12,7 +12,7 @@ use Rattle.fancy_regex.proofs.Scanning.{rule_so}
 use Rattle.fancy_regex.proofs.builder.RegexBuilder.scan_pattern.Goals as goal
 
 pub names_of-requires : goal.names_of-requires
-names_of-requires c = ((c.in_ok-tree.ensures.well_formed).0).not_too_many
+names_of-requires c = ((c.in_ok-tree.ensures.spelled.well_formed).0).not_too_many
 
 pub returns-in_ok-names-in-Ok : goal.returns-in_ok-names-in-Ok
 returns-in_ok-names-in-Ok c =
@@ -26,7 +26,8 @@ returns-in_ok-names-in-Ok c =
     let made = rule_of tree o (options b).backtrack_limit in
     record {
       tree = tree;
-      spelled = c.in_ok-tree.ensures;
+      spelled = c.in_ok-tree.ensures.spelled;
+      analysed_within = c.in_ok-tree.ensures.within;
       compiled = λ text. subst (λ r. IsTreeOf r text c.limit.new.self) (rule text) (c.limit.ensures (made text) text (c.in-Ok.ensures text));
       names = subst (AreNamesOf tree) (sym c.in_ok-names-in-Ok.ensures.ok) c.names_of.ensures;
     }

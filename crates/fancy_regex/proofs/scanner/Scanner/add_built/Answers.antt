@@ -14,6 +14,7 @@ returns-in-Ok-clause-ok c =
     record {
       tree = p.tree;
       spelled = p.spelled;
+      analysed_within = p.analysed_within;
       rules = λ text rules h. c.in-Ok.ensures.ok text rules (rule_for p.tree o text) h (p.compiled text);
       group_names = arc_value names;
       are_names = p.names;
