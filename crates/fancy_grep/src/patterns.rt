@@ -14,6 +14,9 @@ use fancy_pattern::pattern::parse_tree;
 use fancy_regex::{Error, Regex, RegexBuilder, escape};
 use std::alloc::{AllocError, Global};
 
+/// How many instructions its program may have.
+const MOST_INSTRUCTIONS: usize = 1_000_000;
+
 /// How many nodes of the pattern may stand in one another, calls with them.
 const MOST_NESTING: usize = 4_000;
 
@@ -134,7 +137,7 @@ fn regex_of(alloc: Global, pattern: &str, options: PatternOptions) -> Result<Reg
     RegexBuilder::new(pattern)
         .case_insensitive(options.case_insensitive)
         .leftmost_longest(options.longest)
-        .max_prog_size(None)
+        .max_prog_size(Some(MOST_INSTRUCTIONS))
         .max_nesting(Some(MOST_NESTING))
         .visit_limit(Some(options.visit_limit))
         .memory_limit(Some(options.memory_limit))

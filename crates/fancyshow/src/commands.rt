@@ -171,7 +171,7 @@ static ARGUMENTS: [(&str, Takes, Kind, &str); 27] = [
         "max-prog",
         Takes::Pattern,
         Kind::Number,
-        "At most so many instructions in the program",
+        "At most so many instructions in the program [if left out 1000000]",
     ),
     (
         "TEXT",
@@ -213,13 +213,13 @@ static ARGUMENTS: [(&str, Takes, Kind, &str); 27] = [
         "visits",
         Takes::Search,
         Kind::Number,
-        "At most so many states of easy parts in a search",
+        "At most so many states of easy parts in a search [if left out 100000000]",
     ),
     (
         "memory",
         Takes::Search,
         Kind::Bytes,
-        "At most so many bytes that a search keeps for them",
+        "At most so many bytes that a search keeps for them [if left out 268435456]",
     ),
     (
         "pos",

@@ -26,11 +26,18 @@ fn help(limit: RuntimeError) -> &'static str {
     }
 }
 
+/// What may help where a tree is refused.
+fn refusal_help(refused: &CompileError) -> &'static str {
+    match refused {
+        CompileError::PatternTooComplex => "--max-prog N allows more",
+        _ => "fancyshow tree shows where",
+    }
+}
+
 /// Why the tree is refused.
 fn compile_fault(alloc: Global, refused: &CompileError) -> Result<Trouble, Error> {
-    Ok(Trouble::Refusal(format!(in alloc;
-        "{refused} ({refused:?})\n  fancyshow tree shows where"
-    )?))
+    let help = refusal_help(refused);
+    Ok(Trouble::Refusal(format!(in alloc; "{refused} ({refused:?})\n  {help}")?))
 }
 
 /// Which limit the search passed.

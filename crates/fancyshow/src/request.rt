@@ -8,6 +8,15 @@ use fancy_vm::vm::SearchLimits;
 use std::alloc::{AllocError, Global};
 use std::{fs, io};
 
+/// How many instructions the program of a pattern or a tree may have, unless said otherwise.
+const MOST_INSTRUCTIONS: usize = 1_000_000;
+
+/// How many states of easy parts a search may visit, unless said otherwise.
+const MOST_VISITS: u64 = 100_000_000;
+
+/// How many bytes it may keep for them at one time, unless said otherwise.
+const MOST_MEMORY: usize = 268_435_456;
+
 /// A pattern or a tree, and how it is analysed, compiled and searched for.
 #[derive(Drop)]
 pub struct Request {
@@ -177,14 +186,18 @@ fn arguments(matches: &ArgMatches<'_>) -> Arguments {
         longest: matches.get_flag("longest"),
         backtracks: matches.get_one::<usize>("backtracks"),
         steps: matches.get_one::<u64>("steps"),
-        max_prog: matches.get_one::<usize>("max-prog"),
+        max_prog: Some(
+            matches
+                .get_one::<usize>("max-prog")
+                .unwrap_or(MOST_INSTRUCTIONS),
+        ),
     }
 }
 
 fn limits(matches: &ArgMatches<'_>) -> SearchLimits {
     SearchLimits {
-        visits: matches.get_one::<u64>("visits"),
-        bytes: matches.get_one::<usize>("memory"),
+        visits: Some(matches.get_one::<u64>("visits").unwrap_or(MOST_VISITS)),
+        bytes: Some(matches.get_one::<usize>("memory").unwrap_or(MOST_MEMORY)),
     }
 }
 
