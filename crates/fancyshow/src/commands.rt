@@ -117,7 +117,7 @@ static PARTS: [(&str, Takes, &str); 11] = [
 ];
 
 /// Each argument: its name, the parts that take it, what is written, and what it says.
-static ARGUMENTS: [(&str, Takes, Kind, &str); 27] = [
+static ARGUMENTS: [(&str, Takes, Kind, &str); 28] = [
     ("PATTERN", Takes::Pattern, Kind::Word, "The pattern"),
     (
         "tree",
@@ -172,6 +172,12 @@ static ARGUMENTS: [(&str, Takes, Kind, &str); 27] = [
         Takes::Pattern,
         Kind::Number,
         "At most so many instructions in the program [if left out 1000000]",
+    ),
+    (
+        "lookups",
+        Takes::Pattern,
+        Kind::Number,
+        "At most so many sizes of groups looked up in the analysis [if left out 20000000]",
     ),
     (
         "TEXT",

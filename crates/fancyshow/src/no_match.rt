@@ -52,6 +52,7 @@ fn takes_nothing(
         source: notation(alloc, class)?,
         is_tree: true,
         arguments: plain(&request.arguments),
+        lookups: usize::MAX,
         limits: SearchLimits::none(),
     };
     let (found, _) = captures(alloc, &alone, text)?;

@@ -123,6 +123,13 @@ pub fn too_large(alloc: Global, what: &str, most: usize, of: &str) -> Result<Tro
     )?))
 }
 
+/// The trouble of a tree whose groups refer to one another too often.
+pub fn too_many_lookups(alloc: Global) -> Result<Trouble, AllocError> {
+    let why =
+        "the groups refer to one another too often (AnalysisLimitExceeded)\n  --lookups N allows more";
+    Ok(Trouble::Refusal(String::from_str(alloc, why)?))
+}
+
 /// The trouble of a tree that nests too deep.
 pub fn too_deep(alloc: Global, most: usize) -> Result<Trouble, AllocError> {
     Ok(Trouble::Refusal(format!(in alloc;

@@ -11,6 +11,9 @@ use std::{fs, io};
 /// How many instructions the program of a pattern or a tree may have, unless said otherwise.
 const MOST_INSTRUCTIONS: usize = 1_000_000;
 
+/// How often the analysis of a tree may look up the size of a group, unless said otherwise.
+const MOST_LOOKUPS: usize = 20_000_000;
+
 /// How many states of easy parts a search may visit, unless said otherwise.
 const MOST_VISITS: u64 = 100_000_000;
 
@@ -24,6 +27,8 @@ pub struct Request {
     /// The source is a tree, and no pattern.
     pub is_tree: bool,
     pub arguments: Arguments,
+    /// How often the analysis of the tree may look up the size of a group.
+    pub lookups: usize,
     /// How much the delegates of a search may take together.
     pub limits: SearchLimits,
 }
@@ -149,6 +154,7 @@ fn read_request<'a>(
         source: prepared(rt.alloc(), source.as_str(), is_tree)?,
         is_tree,
         arguments: arguments(matches),
+        lookups: matches.get_one::<usize>("lookups").unwrap_or(MOST_LOOKUPS),
         limits: limits(matches),
     };
     Ok((request, word))

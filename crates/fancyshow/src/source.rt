@@ -4,8 +4,9 @@ ghost use Rattle.std.specs.Prelude.{IfOk};
 ghost use Rattle.fancy_expr.specs.Sound.{IsWellFormedTree};
 
 use crate::outcome::Trouble;
-use crate::refusals::{pattern_refusal, refusal, too_deep};
+use crate::refusals::{pattern_refusal, refusal, too_deep, too_many_lookups};
 use crate::request::Request;
+use fancy_analysis::lookups::is_looked_up_within;
 use fancy_command::command::MOST_DEPTH;
 use fancy_expr::expr::ExprTree;
 use fancy_notation::depth::depth;
@@ -23,10 +24,15 @@ pub fn read(alloc: Global, request: &Request) -> Result<ExprTree, Trouble>
     ensures { IfOk result IsWellFormedTree }
 {
     let source = request.source.as_str();
-    if request.is_tree {
-        tree_of_notation(alloc, source)
+    let tree = if request.is_tree {
+        tree_of_notation(alloc, source)?
     } else {
-        tree_of_pattern(alloc, source, !request.arguments.ascii)
+        tree_of_pattern(alloc, source, !request.arguments.ascii)?
+    };
+    if is_looked_up_within(&tree, request.lookups) {
+        Ok(tree)
+    } else {
+        Err(too_many_lookups(alloc)?)
     }
 }
 
