@@ -32,7 +32,7 @@
 #define FANCY_H
 
 /* The version of this header, as in CHANGELOG.md. fancy_version writes that of the library. */
-#define FANCY_VERSION "0.3.0"
+#define FANCY_VERSION "0.4.0"
 
 #include <stdbool.h>
 #include <stddef.h>
@@ -94,13 +94,13 @@ enum fancy_code {
     FANCY_GENERAL_PARSE_ERROR = 38,
 
     FANCY_WRONG_SIZE = 39,           /* size of the options is not the library's: header and library are of two versions */
-    FANCY_NO_ROOM = 40,              /* there is no room for the text of fancy_replace: count */
+    FANCY_NO_ROOM = 40,              /* there is no room for all of the text of fancy_replace: count */
 
     /* a search passed a limit of the options of this name */
     FANCY_VISIT_LIMIT_EXCEEDED = 41,
     FANCY_MEMORY_LIMIT_EXCEEDED = 42,
 
-    /* a pattern or a tree was read, and its groups refer to one another more often than analysis_limit allows */
+    /* a pattern or a tree was read, and its analysis exceeds analysis_limit */
     FANCY_ANALYSIS_LIMIT_EXCEEDED = 43
 };
 
@@ -121,31 +121,31 @@ struct fancy_scanner {
 /* The options of the compiler and of a search. Begin with fancy_default_options(), which has all that is false or 0 here
  * unless it says otherwise.
  *
- * With backtrack_limit left at FANCY_UNSET a search may fall back 1,000,000 times, and once more for each byte of the text
- * and for its end. A start that fails is one such time, so a search for a tree that is easy never stops at that.
+ * With backtrack_limit left at FANCY_UNSET a search may fall back 20,000,000 times, and with step_limit left at UINT64_MAX
+ * it may execute 100,000,000 instructions, and once more, or eight more, for each byte of the text and for its end. A start
+ * that fails is one such time and fewer instructions, so a search for a tree that is easy never stops at these.
  *
  * Parts of a pattern without look-around, references and the like are searched for by an automaton, and a search that may
  * take long is one of these parts: no limit of steps or of backtracks reaches into it. visit_limit says how many states
  * all these parts may take up in one search together, and memory_limit how many bytes what they keep may hold at one time;
  * outside these parts, the places to which a search may fall back may hold as many (the machine looks at each 64th).
- * A state costs some 20 to 100 ns, so the default of 100,000,000 bounds a search to several seconds at worst; everyday
- * patterns need a few for each byte of the text, if any. A search that passes one of both is FANCY_VISIT_LIMIT_EXCEEDED
+ * A state costs some 20 to 150 ns, so the default of 20,000,000 bounds a search to some 3 s at worst; everyday patterns need
+ * a few for each byte of the text, if any. A search that passes one of both is FANCY_VISIT_LIMIT_EXCEEDED
  * or FANCY_MEMORY_LIMIT_EXCEEDED. With both unset an easy tree passes no limit but those of its own steps and backtracks,
  * which it passes only where they were set lower; then it may take as long and as much memory as it needs.
  *
  * Both are for each search: of the calls for all matches, of fancy_replace and of fancy_scan, for each match. 0 and
  * UINT64_MAX, or SIZE_MAX, are no limit.
  *
- * Before a pattern is compiled its groups are analysed: how many characters each takes at least and at most. Where groups
- * refer to one another in a ring, the analysis may look up the size of a group for each back reference and each call, as
- * often as there are groups, and once more. That takes a time which grows by the square of the pattern, and which no other
- * limit counts. analysis_limit bounds this number: the back references and calls, times the groups and one. A pattern or
- * a tree for which it is greater is FANCY_ANALYSIS_LIMIT_EXCEEDED: after it was read, and before it is refused for another
- * reason. 4,471 groups with one reference each stand within the default of 20,000,000. 0 is no limit, and SIZE_MAX is none
- * in effect.
+ * Before a pattern is compiled it is analysed: how many characters each group takes at least and at most. Where groups refer
+ * to one another in a ring this takes several rounds over the pattern, and no other limit counts it. analysis_limit bounds
+ * how many nodes are looked at in rounds that change something. A pattern or a tree for which it is greater is
+ * FANCY_ANALYSIS_LIMIT_EXCEEDED: after it was read, and before it is refused for another reason. 0 is no limit, and SIZE_MAX
+ * is none in effect.
  *
- * A host that was built by a header without these three, in which they were reserved, has them from
- * fancy_default_options, and without it none, by its zeros. */
+ * Each search checks that its text is UTF-8, in time linear in the text. A host that searches one text by many calls may
+ * check it once and set text_is_utf8: then it answers for it, and no call reads more of the text than its search does. What
+ * is searched has to be UTF-8 then, from its first byte to its length: of other bytes the library may read beyond their end. */
 struct fancy_options {
     size_t size;            /* sizeof(struct fancy_options); a call with another is FANCY_WRONG_SIZE */
     size_t pos;             /* where the search begins, a byte of the text: for fancy_find and fancy_is_match */
@@ -153,7 +153,7 @@ struct fancy_options {
     size_t max_nesting;     /* how many nodes may be written out in one another, calls with them; 500, for 1 MB of stack */
     size_t max_depth;       /* how deep a tree may nest, in parentheses; 250, for a stack of 1 MB: for fancy_compile */
     size_t backtrack_limit; /* how often a search may fall back to a branch; FANCY_UNSET: see above */
-    uint64_t step_limit;    /* how many instructions a search may execute; UINT64_MAX */
+    uint64_t step_limit;    /* how many instructions a search may execute; UINT64_MAX: see above */
 
     /* of searches, and of both where it says so */
     bool compile_anchored;  /* only the first start is tried: for the compiler */
@@ -174,12 +174,15 @@ struct fancy_options {
     bool oniguruma;            /* under m a line begins where Oniguruma has it */
     bool named_groups_only;    /* where a group has a name, a plain ( ) captures nothing */
 
+    /* of all calls that search: see above */
+    bool text_is_utf8;         /* the host answers for the text, and it is not checked */
+
     /* of searches: see above */
-    uint64_t visit_limit;      /* how many states a search may visit in parts that an automaton searches for; 100,000,000 */
+    uint64_t visit_limit;      /* how many states a search may visit in parts that an automaton searches for; 20,000,000 */
     size_t memory_limit;       /* how many bytes it may keep there and elsewhere; 268,435,456 (256 MiB) */
 
     /* of what compiles: see above */
-    size_t analysis_limit;     /* how often the analysis may look up the size of a group; 20,000,000 */
+    size_t analysis_limit;     /* how many nodes the analysis may look at in rounds that change something; 5,000,000 */
 
     uint64_t reserved[1];      /* 0: room for an option to come, so that the struct keeps its size */
 };
@@ -264,7 +267,7 @@ size_t fancy_groups_named(struct fancy_program *program, const char *name, size_
  * A text is a range: to end a search early, give a shorter length. What lies behind is then not there, for look-ahead and
  * `$` too. To begin it later, set pos: what lies before is there, for look-behind and `^`.
  *
- * Errors of each search: FANCY_WRONG_SIZE; FANCY_NOT_UTF8 of the text at byte; FANCY_NO_PROGRAM; FANCY_UNFIT;
+ * Errors of each search: FANCY_WRONG_SIZE; FANCY_NOT_UTF8 of the text at byte, but where text_is_utf8 is set; FANCY_NO_PROGRAM; FANCY_UNFIT;
  * FANCY_BACKTRACK_LIMIT_EXCEEDED, FANCY_STACK_OVERFLOW, FANCY_STEP_LIMIT_EXCEEDED, FANCY_VISIT_LIMIT_EXCEEDED,
  * FANCY_MEMORY_LIMIT_EXCEEDED; FANCY_MEMORY, where a request for memory was refused. The program holds what it held, whatever
  * the code is. */
@@ -307,7 +310,7 @@ struct fancy_outcome fancy_captures_all(struct fancy_program *program, const cha
  *     fancy_scanner_add(&scanner, "\"[^\"]*\"", 9, &options);
  *     fancy_scanner_add(&scanner, "[a-z]+", 6, &options);
  *     do {
- *         outcome = fancy_scan(&scanner, text, strlen(text), &pos, 1, rows, sizeof rows / sizeof *rows);
+ *         outcome = fancy_scan(&scanner, text, strlen(text), &options, &pos, 1, rows, sizeof rows / sizeof *rows);
  *         for (size_t i = 0; i < outcome.count; i++)
  *             use(rows + i * FANCY_ROW_WIDTH(1));
  *     } while (outcome.code == FANCY_OK);
@@ -332,7 +335,8 @@ enum fancy_row {
 struct fancy_outcome fancy_scanner_add(struct fancy_scanner *scanner, const char *pattern, size_t pattern_length,
                                        const struct fancy_options *options);
 
-/* Searches a text for the patterns of a scanner, from match to match, from *pos on. From each place on it finds the match
+/* Searches a text for the patterns of a scanner, from match to match, from *pos on. Of the options size and text_is_utf8 count
+ * here: each pattern is searched for with those that it was added with. From each place on it finds the match
  * that begins first, of the first matches of all patterns, and of several that begin there that of the pattern that was
  * added first. The next search begins where the match ends, and one character further where that took nothing. So an empty
  * match may stand where the one before it ended.
@@ -344,15 +348,15 @@ struct fancy_outcome fancy_scanner_add(struct fancy_scanner *scanner, const char
  *   FANCY_OK        there was no room for one more
  *   FANCY_NO_MATCH  no pattern has a match from *pos on, or *pos is no place of the text
  *   a limit         no other pattern has a match from *pos on, and the pattern `group` passed this limit
- *   FANCY_NOT_UTF8  of the text, at byte
- *   FANCY_MEMORY
+ *   other codes     FANCY_WRONG_SIZE; FANCY_NOT_UTF8 of the text at byte, but where text_is_utf8 is set; FANCY_MEMORY
  *
  * A pattern that passes a limit does not hide the matches of the others: their row tells the first such pattern. What is
  * found of a pattern is kept for the rest of the call, as long as it holds, so that a call goes over the text once for each
  * pattern. Room for many rows thus saves time where a pattern matches far on or nowhere. A scanner without patterns finds
  * nothing. The scanner has the patterns that it had, whatever the code is. */
-struct fancy_outcome fancy_scan(struct fancy_scanner *scanner, const char *text, size_t text_length, size_t *pos,
-                                size_t groups, size_t *rows, size_t rows_length);
+struct fancy_outcome fancy_scan(struct fancy_scanner *scanner, const char *text, size_t text_length,
+                                const struct fancy_options *options, size_t *pos, size_t groups, size_t *rows,
+                                size_t rows_length);
 
 /* Frees what a scanner holds, which has no patterns then. */
 void fancy_scanner_free(struct fancy_scanner *scanner);
@@ -360,11 +364,14 @@ void fancy_scanner_free(struct fancy_scanner *scanner);
 /* ---- replacing */
 
 /* Writes the text with its first `limit` matches replaced, all of them where limit is 0; without a match the text itself.
- * The matches are those of fancy_find_all. count says how many bytes the new text has, without the zero at its end:
+ * The matches are those of fancy_find_all. count says how many bytes the new text has, without the zero at its end, and
+ * SIZE_MAX if it has more than that:
  *
- *   FANCY_OK       it was written, with the zero
- *   FANCY_NO_ROOM  count is room or more: nothing was written, and the call may be made again with count + 1 bytes
+ *   FANCY_OK       all of it was written, with the zero
+ *   FANCY_NO_ROOM  count is room or more: it was cut, and the call may be made again with count + 1 bytes
  *   other codes    nothing was written; a replacement that is no UTF-8 is FANCY_NOT_UTF8 too
+ *
+ * Besides what the search takes, a call takes as much memory as it writes.
  *
  * The new text may have a zero inside. The replacement is a template: $1, ${1}, $name and ${name} write what a group took,
  * and $$ writes a dollar. Without braces a name is the longest run of letters, digits and _ of ASCII. A group that is not
@@ -426,8 +433,8 @@ static inline size_t *fancy_numbers(size_t *numbers)
     fancy_captures_all(program, fancy_from(text), length, options, standing, fancy_numbers(spans), spans_length)
 #define fancy_scanner_add(scanner, pattern, length, options) \
     fancy_scanner_add(scanner, fancy_from(pattern), length, options)
-#define fancy_scan(scanner, text, length, pos, groups, rows, rows_length) \
-    fancy_scan(scanner, fancy_from(text), length, pos, groups, fancy_numbers(rows), rows_length)
+#define fancy_scan(scanner, text, length, options, pos, groups, rows, rows_length) \
+    fancy_scan(scanner, fancy_from(text), length, options, pos, groups, fancy_numbers(rows), rows_length)
 #define fancy_replace(program, text, length, options, replacement, replacement_length, is_literal, limit, into, room) \
     fancy_replace(program, fancy_from(text), length, options, fancy_from(replacement), replacement_length, is_literal, \
                   limit, fancy_into(into), room)

@@ -91,6 +91,10 @@ static void replace(struct fancy_program *program, const char *text, size_t leng
         want(itself.count == length && memcmp(into, text, length) == 0 && into[length] == 0,
              "a match in its own place changes the text");
     want(itself.code != FANCY_NO_ROOM, "a match in its own place takes more room");
+    size_t half = length / 2;
+    struct fancy_outcome part = fancy_replace(program, text, length, options, "$0", 2, false, 0, into, half + 1);
+    if (itself.code == FANCY_OK && (part.code == FANCY_OK || part.code == FANCY_NO_ROOM))
+        want(part.count == length && memcmp(into, text, half) == 0 && into[half] == 0, "a text that is cut is not its beginning");
     struct fancy_outcome small = fancy_replace(program, text, length, options, "", 0, true, 1, into, 0);
     want(small.code != FANCY_OK, "a text with its zero is written without room");
     free(into);
@@ -100,7 +104,10 @@ static void search(struct fancy_program *program, const char *text, size_t lengt
 {
     size_t first[ROOM], second[ROOM], many[ROOM], single[ROOM];
     struct fancy_outcome found = fancy_find(program, text, length, options, first, ROOM);
-    struct fancy_outcome again = fancy_find(program, text, length, options, second, ROOM);
+    /* The second time the host answers for the text, if the first call found it to be UTF-8. */
+    struct fancy_options checked = *options;
+    checked.text_is_utf8 = found.code != FANCY_NOT_UTF8 && found.code != FANCY_WRONG_SIZE;
+    struct fancy_outcome again = fancy_find(program, text, length, &checked, second, ROOM);
     struct fancy_outcome whether = fancy_is_match(program, text, length, options);
     want(found.code == again.code, "a second search ends otherwise");
     if (found.code == FANCY_OK) {

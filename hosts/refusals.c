@@ -1,7 +1,9 @@
 /* What a host is answered when it asks for what cannot be answered: a line for each call. */
 #include "fancy.h"
 #include <stdio.h>
+#include <stdlib.h>
 #include <string.h>
+#include <sys/resource.h>
 
 static struct fancy_program program = FANCY_NOTHING;
 static struct fancy_options options;
@@ -95,6 +97,29 @@ static void replace(const char *what, const char *replacement, bool is_literal, 
     printf("%zu bytes: %s\n", outcome.count, into);
 }
 
+/* A replacement of 4,000,000 bytes for each of 1,000 matches, with room for a few bytes: the length is counted, and the text is
+ * not built. */
+static void replace_by_much(void)
+{
+    const size_t matches = 1000, length = 4000000;
+    char into[8] = "", *text = malloc(matches), *replacement = malloc(length);
+    struct rusage before, after;
+    if (!text || !replacement)
+        exit(2);
+    memset(text, 'a', matches);
+    memset(replacement, 'b', length);
+    compile_pattern("one letter", "a");
+    getrusage(RUSAGE_SELF, &before);
+    struct fancy_outcome outcome =
+        fancy_replace(&program, text, matches, &options, replacement, length, true, 0, into, sizeof into);
+    getrusage(RUSAGE_SELF, &after);
+    print_outcome("a text of 4 GB with room for 8 bytes", outcome);
+    printf("%zu bytes: %s, %s\n", outcome.count, into,
+           after.ru_maxrss - before.ru_maxrss < 100000 ? "in little memory" : "in much memory");
+    free(replacement);
+    free(text);
+}
+
 static void replace_matches(void)
 {
     replace("a replacement without a pattern", "$1", false, 0, 24);
@@ -105,6 +130,9 @@ static void replace_matches(void)
     replace("a template as it stands", "$1$$", true, 0, 24);
     replace("no more than the text and its zero", "$0", false, 0, 10);
     replace("a byte less", "$0", false, 0, 9);
+    replace("room for a part", "<$2>", false, 0, 3);
+    replace("room in the middle of a replacement", "xy", true, 0, 2);
+    replace("room for the zero alone", "-", false, 0, 1);
     replace("no room at all", "$0", false, 0, 0);
     replace("by nothing", "", false, 0, 24);
     replace("a replacement that is no UTF-8", "a\xff", false, 0, 24);
@@ -116,6 +144,7 @@ static void replace_matches(void)
     options = fancy_default_options();
     compile_pattern("what is not there", "x");
     replace("no match", "-", false, 0, 24);
+    replace_by_much();
     compile_pattern("an empty pattern", "");
     printf("%zu bytes of nothing\n", fancy_replace(&program, NULL, 0, &options, NULL, 0, false, 0, NULL, 0).count);
     fancy_free(&program);
@@ -281,7 +310,7 @@ static void add(const char *what, const char *pattern)
 static void scan(const char *what, const char *text, size_t pos, size_t groups, size_t room)
 {
     size_t rows[24];
-    struct fancy_outcome outcome = fancy_scan(&scanner, text, strlen(text), &pos, groups, rows, room);
+    struct fancy_outcome outcome = fancy_scan(&scanner, text, strlen(text), &options, &pos, groups, rows, room);
     print_outcome(what, outcome);
     printf("%zu written, then from %zu:", outcome.count, pos);
     for (size_t i = 0; i < FANCY_ROW_WIDTH(groups) * outcome.count; i++)
@@ -311,6 +340,12 @@ static void scan_texts(void)
     scan("from behind the text", "aa", 3, 1, 24);
     scan("from a place inside a character", "\xc3\xa9", 1, 1, 24);
     scan("a text that is no UTF-8", "ab\xff", 0, 1, 24);
+    options.size -= 8;
+    scan("a scan by options of another size", "ab", 0, 1, 24);
+    options = fancy_default_options();
+    options.text_is_utf8 = true;
+    scan("a text for which the host answers", "xab\xc3\xa9", 0, 1, 24);
+    options = fancy_default_options();
     add("a pattern that takes nothing", "(?=b)");
     scan("a match that takes nothing", "cbb", 0, 1, 24);
     options.step_limit = 0;
@@ -318,7 +353,7 @@ static void scan_texts(void)
     options = fancy_default_options();
     scan("a limit beside a match", "cabc", 0, 1, 24);
     scan("a limit and no match", "c", 0, 1, 24);
-    printf("%zu rows, no room at all\n", fancy_scan(&scanner, NULL, 0, &pos, 1, NULL, 0).count);
+    printf("%zu rows, no room at all\n", fancy_scan(&scanner, NULL, 0, &options, &pos, 1, NULL, 0).count);
     fancy_scanner_free(&scanner);
     scan("a scan by what was freed", "ab", 0, 1, 24);
     fancy_scanner_free(&scanner);
@@ -372,41 +407,42 @@ static void pass_limits(void)
     fancy_free(&program);
 }
 
-/* Two groups with three references and calls: each counts once for each group, and once more, so they count 9. */
-static const char *const NINE = "(a)(b)\\1\\2\\g<1>";
+/* Eight nodes, in four rounds that change something: in two the sizes of the groups, and then that of the whole, and in two
+ * what is known to end, since there is a call. */
+static const char *const LOOKED_AT = "(a)(b)\\1\\2\\g<1>";
 
 static void refuse_analyses(void)
 {
     const char *tree = "(cat (grp \"a\") (grp \"b\") (ref 1) (ref 2) (call 1))";
     options = fancy_default_options();
-    printf("%zu lookups\n", options.analysis_limit);
-    options.analysis_limit = 9;
-    compile_pattern("as many lookups as may be", NINE);
+    printf("%zu nodes\n", options.analysis_limit);
+    options.analysis_limit = 32;
+    compile_pattern("as many nodes as may be", LOOKED_AT);
     find("a search for the pattern", "xababa");
     printf("%zu %zu\n", spans[0], spans[1]);
     compile("a tree of as many", tree);
-    add("a pattern of a scanner of as many", NINE);
-    print_message("why a pattern of as many is not refused", NINE);
-    options.analysis_limit = 8;
-    compile_pattern("a lookup more", NINE);
+    add("a pattern of a scanner of as many", LOOKED_AT);
+    print_message("why a pattern of as many is not refused", LOOKED_AT);
+    options.analysis_limit = 31;
+    compile_pattern("a node more", LOOKED_AT);
     find("a search after too many", "xababa");
     compile("a tree of one more", tree);
-    add("a pattern of a scanner of one more", NINE);
-    print_message("why a pattern of one more is refused", NINE);
+    add("a pattern of a scanner of one more", LOOKED_AT);
+    print_message("why a pattern of one more is refused", LOOKED_AT);
     scan("the scanner has the one pattern", "xababa", 0, 1, 24);
     fancy_scanner_free(&scanner);
     options.analysis_limit = 0;
-    compile_pattern("no limit of lookups", NINE);
+    compile_pattern("no limit of nodes", LOOKED_AT);
     options.analysis_limit = SIZE_MAX;
-    compile_pattern("the greatest limit of lookups", NINE);
-    options.analysis_limit = 1;
+    compile_pattern("the greatest limit of nodes", LOOKED_AT);
+    options.analysis_limit = 3;
     compile_pattern("groups without references", "(a)(b)");
     compile_pattern("a reference to no group, past the limit", "(a)\\2");
     compile_pattern("a fault behind a reference", "(a)\\1(");
     options.max_nesting = 1;
     compile_pattern("two limits: that of the analysis is told", "(a)\\1");
     options.max_nesting = 500;
-    options.analysis_limit = 2;
+    options.analysis_limit = 4;
     compile_pattern("a reference to no group, within the limit", "(a)\\2");
     options = fancy_default_options();
     fancy_free(&program);

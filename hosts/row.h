@@ -34,6 +34,9 @@ static void read_words(char *line, struct row *row)
     struct fancy_options options = fancy_default_options();
     options.max_prog_size = SIZE_MAX;
     options.analysis_limit = 0;
+    /* the rows are answered with the limits of the call `search` */
+    options.backtrack_limit = 1000001 + row->text_length;
+    options.step_limit = UINT64_MAX - 1;
     row->is_pattern = false;
     for (char *word = strtok(line, " \n"); word != NULL; word = strtok(NULL, " \n")) {
         if (strcmp(word, "--compile-anchored") == 0)

@@ -130,7 +130,7 @@ static bool tell_scan(const struct row *rules, size_t count, const struct row *r
     }
     while (outcome.code == FANCY_OK) {
         is_counted = true;
-        outcome = fancy_scan(&scanner, row->text, row->text_length, &pos, GROUPS, rows, most * WIDTH);
+        outcome = fancy_scan(&scanner, row->text, row->text_length, &row->options, &pos, GROUPS, rows, most * WIDTH);
         is_counted = false;
         for (size_t i = 0; i < outcome.count; i++)
             tell_row(told->file, rows + i * WIDTH);

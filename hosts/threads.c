@@ -20,10 +20,11 @@ struct task {
 /* Counts the matches of the scan, and frees the scanner. */
 static void count_rows(struct task *task)
 {
+    struct fancy_options options = fancy_default_options();
     struct fancy_outcome outcome;
     size_t rows[8 * FANCY_ROW_WIDTH(1)], pos = 0;
     do {
-        outcome = fancy_scan(&task->scanner, task->text, task->length, &pos, 1, rows, sizeof rows / sizeof *rows);
+        outcome = fancy_scan(&task->scanner, task->text, task->length, &options, &pos, 1, rows, sizeof rows / sizeof *rows);
         task->scanned += outcome.count;
     } while (outcome.code == FANCY_OK);
     fancy_scanner_free(&task->scanner);

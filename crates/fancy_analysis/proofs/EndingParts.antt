@@ -3,7 +3,6 @@ use Rattle.std.proofs.Common.{◌≡◌, ℕ, ◌+◌, ◌<◌, ◌≤◌, Bool,
 use Rattle.std.proofs.lemmas.List.{length-map, map-append, take_all}
 use Rattle.fancy_meaning.specs.Tree as plain
 use Rattle.fancy_meaning.specs.Tree.{Tree, Trees, none, more, trees}
-use Rattle.fancy_meaning.specs.Options.{Analysis}
 use Rattle.fancy_analysis.specs.declared.endings.PartEnds.{PartEnds}
 use Rattle.fancy_info.specs.declared.info.Info.{Info}
 use Rattle.fancy_expr.specs.declared.expr.Absent.{Absent}
@@ -11,11 +10,13 @@ use Rattle.fancy_expr.specs.declared.expr.Absent.TheVariants as code_absent
 use Rattle.fancy_expr.specs.declared.expr.Expr.{Expr}
 use Rattle.fancy_expr.specs.declared.expr.Expr.TheVariants as code
 use Rattle.fancy_expr.specs.Exprs.{below, below_absent}
-use Rattle.fancy_info.specs.Infos.{nth, absent_over, node_over, info_tree, info_children, info_facts, IsAnalysed}
+use Rattle.fancy_info.specs.Infos.{nth, absent_over, node_over, info_tree, info_children, info_facts}
+use Rattle.fancy_meaning.specs.Sizes.{Known}
+use Rattle.fancy_analysis.specs.Made.{IsSized}
 use Rattle.fancy_analysis.specs.Endings.{ends_by, all_end_by, some_end_by, and_then, no_parts, node_ends, is_ended_group, is_own_end, group_ends}
 use Rattle.fancy_info.proofs.Unfolded.{tree_out}
 use Rattle.fancy_expr.proofs.Walks.{taken}
-use Rattle.fancy_analysis.proofs.InfoNodes.{any_in_each, any-below, any-taken, has_parts}
+use Rattle.fancy_analysis.proofs.InfoNodes.{any_in_each, any-below, any-taken, sized_parts}
 
 abbrev pub parts_from : PartEnds → List Bool → PartEnds
 parts_from p [] = p
@@ -119,14 +120,14 @@ module _ (flags : List Bool) where
   map-map (i ∷ is) = ap (λ l. ended i ∷ l) (map-map is)
 
   -- the node ends where its parts say so
-  pub ends-here : (a : Analysis) (i : Info) (n : ℕ) → IsAnalysed a i → length (info_children i) ≤ n →
+  pub ends-here : (known : Known) (i : Info) (n : ℕ) → IsSized known i → length (info_children i) ≤ n →
       node_ends flags (info_facts i).expr (ends_of (take n (info_children i))) ≡ ends_by flags (info_tree i)
-  ends-here a i n found h =
+  ends-here known i n found h =
       let f = info_facts i in
       let ts = map info_tree (info_children i) in
       ap (λ l. node_ends flags f.expr (ends_of l)) (take_all n (info_children i) h)
       ∙ ap (λ l. node_ends flags f.expr (parts_from no_parts l)) (map-map (info_children i))
-      ∙ over_ends f.expr f.start_group f.within ts (length-map (info_children i) info_tree ∙ has_parts a i found)
+      ∙ over_ends f.expr f.start_group f.within ts (length-map (info_children i) info_tree ∙ sized_parts known i found)
       ∙ ap (ends_by flags) (sym (tree_out i))
 
   -- ---- the groups of a node
@@ -173,11 +174,11 @@ module _ (flags : List Bool) where
       ∙ ap (λ b. old || (lt && b)) (sym (any-taken (is_ended_group flags g) is n i h at))
 
   -- and the node itself
-  pub flag_all : (a : Analysis) (g : ℕ) (i : Info) (n : ℕ) (old now next lt ends : Bool) → IsAnalysed a i → length (info_children i) ≤ n →
+  pub flag_all : (known : Known) (g : ℕ) (i : Info) (n : ℕ) (old now next lt ends : Bool) → IsSized known i → length (info_children i) ≤ n →
       ends ≡ ends_by flags (info_tree i) → now ≡ (old || (lt && any_in_each (is_ended_group flags g) (take n (info_children i)))) →
       next ≡ (now || (lt && is_own_end (info_facts i).expr (info_facts i).start_group ends g)) →
       next ≡ (old || (lt && group_ends flags (info_tree i) g))
-  flag_all a g i n old now next lt ends found h is before here =
+  flag_all known g i n old now next lt ends found h is before here =
       let test = is_ended_group flags g in
       here
       ∙ ap (λ b. b || (lt && is_own_end (info_facts i).expr (info_facts i).start_group ends g)) (before
@@ -185,4 +186,4 @@ module _ (flags : List Bool) where
       ∙ ap (λ e. (old || (lt && any_in_each test (info_children i))) || (lt && is_own_end (info_facts i).expr (info_facts i).start_group e g)) is
       ∙ ap (λ b. (old || (lt && any_in_each test (info_children i))) || (lt && b)) (sym (own_end g i))
       ∙ or_and old lt (any_in_each test (info_children i)) (test (info_tree i))
-      ∙ ap (λ b. old || (lt && b)) (or_swap (any_in_each test (info_children i)) (test (info_tree i)) ∙ sym (any-below test i (has_parts a i found)))
+      ∙ ap (λ b. old || (lt && b)) (or_swap (any_in_each test (info_children i)) (test (info_tree i)) ∙ sym (any-below test i (sized_parts known i found)))

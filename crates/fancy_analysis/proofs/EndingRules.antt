@@ -10,11 +10,9 @@ use Rattle.fancy_meaning.specs.Places.{range_from}
 use Rattle.fancy_meaning.specs.Recursion.{CanEnd, AllEnd, SomeEnds, EndsWithParts, ends_with_parts, one_ends, not_required, body_ends, false_branch_ends, true_branch_ends, target_ends, no_target, none_left, and_more, this_one, a_later}
 use Rattle.fancy_meaning.specs.Nodes.{group_count}
 use Rattle.fancy_meaning.specs.Numbering.{numbered}
-use Rattle.fancy_meaning.specs.Options.{Analysis}
 use Rattle.fancy_meaning.specs.Tree.{NoLook}
 use Rattle.fancy_info.specs.declared.info.Info.{Info}
-use Rattle.fancy_info.specs.declared.info.Info.TheViews.{out-Info}
-use Rattle.fancy_analysis.specs.Endings.{IsWhole, ends_by, all_end_by, some_end_by, is_ended_group, group_ends, set_count}
+use Rattle.fancy_analysis.specs.Endings.{IsRootOf, flag_count, next_ends, ends_by, all_end_by, some_end_by, is_ended_group, group_ends, set_count}
 use Rattle.fancy_info.specs.Infos.{info_tree}
 use Rattle.fancy_analysis.specs.Endings as flag
 use Rattle.fancy_info.proofs.GroupNumbers.{numbers}
@@ -362,10 +360,9 @@ next_of (b ∷ flags) (x ∷ next) whole ends some same is groups (suc g) = grou
 pub grows_next : (whole : Tree) (flags next : List Bool) → NextFlags whole flags next → Grows flags next
 grows_next whole flags next is g set = is g ∙ or_left _ _ set
 
-pub has_flags : (a : Analysis) (root : Info) (w : IsWhole a root) (flags : List Bool) → length flags ≡ max (out-Info root).end_group 1 →
-    HasFlags a.tree w.first flags
+pub has_flags : (whole : Tree) (root : Info) (w : IsRootOf whole root) (flags : List Bool) → length flags ≡ flag_count root → HasFlags whole w.first flags
 unfolding numbered group_count
-has_flags a root w flags h = record {
+has_flags whole root w flags h = record {
   is_first = w.is_first;
   numbers = subst (λ t. map (λ k. k.0) (groups t) ≡ range_from w.first (length (groups t))) (sym w.numbered) (numbers NoLook w.first w.parsed);
   count = h ∙ ap (λ k. max k 1) w.end_group;
@@ -376,9 +373,25 @@ unfolding target
 sound_first whole flags sound set = let there = sound 0 set in subst (CanEnd whole) (sym (some_same whole there.body there.is_target)) there.ends
 
 -- a round over the flags that are held
-pub next_of_tree : {a : Analysis} {root : Info} (w : IsWhole a root) (flags held next : List Bool) → NextFlags (info_tree root) held next →
-    held ≡ flags → NextFlags a.tree flags next
-next_of_tree {a} {root} w flags held next is at = subst (λ t. NextFlags t flags next) w.tree (subst (λ l. NextFlags (info_tree root) l next) at is)
+pub next_of_root : (whole : Tree) (root : Info) (w : IsRootOf whole root) (flags held next : List Bool) → NextFlags (info_tree root) held next →
+    held ≡ flags → NextFlags whole flags next
+next_of_root whole root w flags held next is at = subst (λ t. NextFlags t flags next) w.tree (subst (λ l. NextFlags (info_tree root) l next) at is)
+
+-- what a round makes, as a list
+tabulated : (xs : List Bool) (f : ℕ → Bool) (k : ℕ) → ((i : ℕ) → i < length xs → slice_index_or xs i false ≡ f (k + i)) → xs ≡ map f (range_from k (length xs))
+tabulated [] f k h = refl
+tabulated (x ∷ xs) f k h =
+    let at : k + 0 ≡ k = omega arith in
+    let here : x ≡ f k = h 0 (omega arith) ∙ ap f at in
+    let rest = tabulated xs f (suc k) (λ i lt. let up : k + suc i ≡ suc k + i = omega arith in h (suc i) (omega arith) ∙ ap f up) in
+    ap (λ b. b ∷ xs) here ∙ ap (λ l. f k ∷ l) rest
+
+pub next_is : (whole : Tree) (flags next : List Bool) → length next ≡ length flags → NextFlags whole flags next → next ≡ next_ends whole flags
+next_is whole flags next long is =
+    let f : ℕ → Bool = λ g. slice_index_or flags g false || flag.target_ends flags whole g in
+    tabulated next f 0 (λ i lt. is i
+    ∙ ap (λ b. slice_index_or flags i false || (b && flag.target_ends flags whole i)) (lt-ltb i (length flags) (omega arith))
+    ∙ ap f (omega arith)) ∙ ap (λ n. map f (range_from 0 n)) long
 
 module _ (whole : Tree) (n : ℕ) (flags next : List Bool) (has : HasFlags whole n flags) (sound : IsSoundFor whole flags) (is : NextFlags whole flags next) where
   pub sound_next : IsSoundFor whole next

@@ -10,6 +10,8 @@ use Rattle.fancy_meaning.specs.Options.{Analysis}
 use Rattle.fancy_info.specs.declared.info.Info.{Info}
 use Rattle.fancy_expr.specs.Exprs.{below}
 use Rattle.fancy_info.specs.Infos.{info_tree, info_children, info_facts, IsAnalysed, IsFound}
+use Rattle.fancy_meaning.specs.Sizes.{Known}
+use Rattle.fancy_analysis.specs.Made.{IsSized, IsSizedNode}
 use Rattle.fancy_info.proofs.Children.{each_at}
 use Rattle.fancy_info.proofs.Unfolded.{tree_out, each_here, each_below}
 use Rattle.fancy_expr.proofs.Walks.{taken}
@@ -26,6 +28,13 @@ has_parts a i h = (each_here (IsFound a) i h).node.arity
 pub child_analysed : (a : Analysis) (i : Info) (n : ℕ) (child : Info) → n < length (info_children i) → child ≡ get_or (info_children i) n child →
     IsAnalysed a i → IsAnalysed a child
 child_analysed a i n child h at found = each_at (IsAnalysed a) (info_children i) n child (each_below (IsFound a) i found) h at
+
+pub sized_parts : (known : Known) (i : Info) → IsSized known i → HasParts i
+sized_parts known i h = (each_here (IsSizedNode known) i h).arity
+
+pub child_sized : (known : Known) (i : Info) (n : ℕ) (child : Info) → n < length (info_children i) → child ≡ get_or (info_children i) n child →
+    IsSized known i → IsSized known child
+child_sized known i n child h at sized = each_at (IsSized known) (info_children i) n child (each_below (IsSizedNode known) i sized) h at
 
 pub parts-out : (i : Info) → HasParts i → parts (info_tree i) ≡ trees (map info_tree (info_children i))
 parts-out i h =

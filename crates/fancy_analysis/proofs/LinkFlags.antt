@@ -1,16 +1,15 @@
 -- Flags of numbers, as links reach them.
-use Rattle.std.proofs.Common.{◌≡◌, ℕ, zero, suc, ◌+◌, ◌<◌, ◌≤◌, Bool, true, false, not, List, [], ◌∷◌, ◌++◌, length, take, get_or, All, Contains, Vec, Global, ◌↔◌, ◌⊎◌, refl, sym, ap, ◌∙◌, subst, arith, inl, inr}
+use Rattle.std.proofs.Common.{◌≡◌, ℕ, zero, suc, ◌+◌, ◌<◌, ◌≤◌, Bool, true, false, not, List, [], ◌∷◌, ◌++◌, length, take, get_or, All, Contains, Vec, Global, ◌⊎◌, refl, sym, ap, ◌∙◌, subst, arith, inl, inr}
 use Rattle.std.proofs.Math.ListN.{set}
 use Rattle.std.proofs.Math.Seq.{take-append_seam}
 use Rattle.std.proofs.lemmas.Bool.{both_ways, cases_lt}
 use Rattle.std.proofs.lemmas.List.{length-set, length-append, get_or_past, get_or-set_same}
 use Rattle.std.proofs.lemmas.List.Elements.{All-more, All-contains, Contains-append_left, Contains-append_right, Contains-append_cases, Contains-push, Contains-push_cases}
 use Rattle.fancy_analysis.specs.declared.links.Link.{Link}
-use Rattle.fancy_analysis.specs.Reached.{IsReached, the_whole, further, flag, HasRoom, AreReached, AreWays, Reaches}
-use Rattle.fancy_analysis.specs.Callers.{count_at}
-use Rattle.fancy_analysis.specs.Dependents.{listed}
+use Rattle.fancy_analysis.specs.Reached.{IsReached, the_whole, further, flag, listed, HasRoom, AreReached, AreWays, Reaches}
 use Rattle.fancy_analysis.proofs.Members.{contains_cases, contains_first}
-use Rattle.fancy_analysis.proofs.Flags.{one_less, flag_inside, flag_written}
+use Rattle.fancy_analysis.proofs.NumberLists.{none_in}
+use Rattle.fancy_analysis.proofs.Flags.{one_less, flag_written}
 
 pub room_kept : (links : List Link) (before after : List Bool) → length before ≡ length after → HasRoom links before → HasRoom links after
 room_kept links before after long room = record {
@@ -44,9 +43,6 @@ pub written_back : {X : Type 0} (n : ℕ) (xs ys : List X) → n ≡ length ys �
 written_back n xs ys h = ap (λ k. take k (ys ++ xs)) h ∙ take-append_seam ys xs
 
 -- ---- what is reached
-
-none_in : (x : ℕ) → Contains [] x → ⊥
-none_in x h = omega (arith, h.1)
 
 pub reaches_nothing : (flags : List Bool) (next : List ℕ) → Reaches [] flags flags next next
 reaches_nothing flags next = record {
@@ -186,23 +182,3 @@ reaching_done links ways flags w room p = record {
         | inl bad ↦ absurd (none_in (get_or links k d).from bad)
         | inr all ↦ all (get_or links k d).to (w.all k d lt) inside
       ]
-
--- ---- flags by counts
-
-abbrev pub AreFlagged : List ℕ → List Bool → ℕ → Type 0
-AreFlagged counts flags i = (n : ℕ) → n < i → (flag flags n ≡ true) ↔ (0 < count_at counts n)
-
-pub flagged_more : (counts : List ℕ) (flags : List Bool) (i : ℕ) (b : Bool) → i < length flags → (b ≡ true) ↔ (0 < count_at counts i) →
-    AreFlagged counts flags i → AreFlagged counts (set flags i b) (i + 1)
-flagged_more counts flags i b h is f n lt = elim (flag_written flags i n b h) [
-  | inl w ↦ subst (λ m. (flag (set flags i b) m ≡ true) ↔ (0 < count_at counts m)) (sym w.0)
-      ((λ at. is.0 (sym (get_or-set_same flags i b false h) ∙ at)), (λ some. get_or-set_same flags i b false h ∙ is.1 some))
-  | inr w ↦ ((λ at. (f n (omega (arith, w.0))).0 (sym w.1 ∙ at)), (λ some. w.1 ∙ (f n (omega (arith, w.0))).1 some))
-]
-
-pub flagged_all : (counts : List ℕ) (flags : List Bool) (i : ℕ) → i ≡ length flags → AreFlagged counts flags i → (n : ℕ) →
-    (flag flags n ≡ true) ↔ ((n < length flags) × (0 < count_at counts n))
-flagged_all counts flags i e f n = (
-  λ at. (flag_inside flags n at, (f n (let lt = flag_inside flags n at in omega arith)).0 at),
-  λ w. (f n (let lt = w.0 in omega arith)).1 w.1,
-)

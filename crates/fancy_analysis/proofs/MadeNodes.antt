@@ -1,10 +1,10 @@
 -- A node over its children: its size and its hardness are those of the definitions.
-use Rattle.std.proofs.Common.{◌≡◌, ℕ, zero, suc, ◌+◌, Bool, true, false, ◌||◌, List, [], ◌∷◌, map, slice_index_or, refl, sym, ap, ◌∙◌}
+use Rattle.std.proofs.Common.{◌≡◌, ℕ, zero, suc, ◌+◌, Bool, true, false, ◌||◌, List, [], ◌∷◌, map, slice_index_or, refl, sym, ap, ◌∙◌, arith}
 use Rattle.fancy_meaning.specs.Tree as plain
 use Rattle.fancy_meaning.specs.Tree.{Tree, Trees, none, more, trees}
 use Rattle.fancy_meaning.specs.Nodes.{group_count, is_read}
 use Rattle.fancy_meaning.specs.Options.{Analysis}
-use Rattle.fancy_meaning.specs.Sizes.{Size, Known, plus, either, times, size, size_by, each_size}
+use Rattle.fancy_meaning.specs.Sizes.{Size, Known, plus, either, times, size, size_by, each_size, known_of}
 use Rattle.fancy_meaning.specs.Hard.{is_hard, any_hard, is_hard_assertion}
 use Rattle.fancy_analysis.specs.declared.make.VisitTables.{VisitTables}
 use Rattle.fancy_info.specs.declared.info.Info.{Info}
@@ -22,6 +22,7 @@ use Rattle.fancy_info.specs.Infos.{analysis_options_of, nth, absent_over, node_o
 use Rattle.fancy_expr.specs.Each.{Each}
 use Rattle.fancy_expr.specs.Walk.{within_of}
 use Rattle.fancy_analysis.specs.Made.{nth_size, absent_size, size_over, some_true, first_true, is_hard_by_size, hard_over, read_flag, tables_known, IsSizedNode, IsSized, IsMadeNode}
+use Rattle.fancy_analysis.specs.Rounds.{Agree}
 use Rattle.fancy_info.proofs.Unfolded.{tree_roll, tree_out, each_made, each_here}
 
 -- ---- sizes
@@ -134,13 +135,25 @@ module _ (a : Analysis) where
 
 -- ---- the node
 
+-- a node's own size goes by what it names alone
+size_agrees : (one two : Known) (e : Expr) (sizes : List Size) → Agree one two (e ∷ []) → size_over one e sizes ≡ size_over two e sizes
+size_agrees one two (code.Backref zero casei) sizes h = refl
+size_agrees one two (code.Backref (suc g) casei) sizes h = h (code.Backref (suc g) casei) (0, omega arith, refl) (suc g) refl
+size_agrees one two (code.BackrefWithRelativeRecursionLevel zero level casei) sizes h = refl
+size_agrees one two (code.BackrefWithRelativeRecursionLevel (suc g) level casei) sizes h =
+    h (code.BackrefWithRelativeRecursionLevel (suc g) level casei) (0, omega arith, refl) (suc g) refl
+size_agrees one two (code.SubroutineCall g) sizes h = h (code.SubroutineCall g) (0, omega arith, refl) g refl
+size_agrees one two e sizes h = refl
+
 module _ (t : VisitTables) (f : Info-F Info) where
-  size-over : size_of f.size ≡ size_over (tables_known t) f.expr.now (map info_size f.children.items) → Each (IsSized (tables_known t)) f.children.items →
-      size_of f.size ≡ size_by (tables_known t) (tree_over (facts f) f.children.items)
-  size-over sized below =
-      sized
-      ∙ ap (size_over (tables_known t) f.expr.now) (sizes-children (tables_known t) f.children.items below)
-      ∙ sym (node-size (tables_known t) f.expr.now f.start_group (within_of f.within) (trees (map info_tree f.children.items)))
+  module _ (known : Known) (agree : Agree (tables_known t) known (f.expr.now ∷ [])) where
+    size-over : size_of f.size ≡ size_over (tables_known t) f.expr.now (map info_size f.children.items) → Each (IsSized known) f.children.items →
+        size_of f.size ≡ size_by known (tree_over (facts f) f.children.items)
+    size-over sized below =
+        sized
+        ∙ ap (size_over (tables_known t) f.expr.now) (sizes-children known f.children.items below)
+        ∙ size_agrees (tables_known t) known f.expr.now (each_size known (trees (map info_tree f.children.items))) agree
+        ∙ sym (node-size known f.expr.now f.start_group (within_of f.within) (trees (map info_tree f.children.items)))
 
   pub made : size_of f.size ≡ size_over (tables_known t) f.expr.now (map info_size f.children.items) →
       f.is_read ≡ read_flag t.reads.now f.expr.now f.start_group →
@@ -152,10 +165,9 @@ module _ (t : VisitTables) (f : Info-F Info) where
     start_group = ap (λ x. x.start_group) (out-roll-Info f);
     end_group = ap (λ x. x.end_group) (out-roll-Info f);
     within = ap (λ x. within_of x.within) (out-roll-Info f);
-    size = λ arity below. each_made (IsSizedNode (tables_known t)) f (record { size = size-over sized below; arity = arity }) below;
-    found = λ a suits arity exprs below analysed in_turn ends.
-        let here : size_of f.size ≡ size a.tree (tree_over (facts f) f.children.items) =
-        size-over sized below ∙ ap (λ k. size_by k (tree_over (facts f) f.children.items)) suits.known in
+    size = λ known agree arity below. each_made (IsSizedNode known) f (record { size = size-over known agree sized below; arity = arity }) below;
+    found = λ a suits agree arity exprs below analysed in_turn ends.
+        let here : size_of f.size ≡ size a.tree (tree_over (facts f) f.children.items) = size-over (known_of a.tree) agree sized below in
         let flag : f.is_read ≡ is_read_group a.tree (tree_over (facts f) f.children.items) =
         flagged ∙ node-read a t.reads.now suits.reads f.expr.now f.start_group (within_of f.within) (trees (map info_tree f.children.items)) in
         each_made (IsFound a) f

@@ -1,6 +1,10 @@
 -- One round after the other.
-use Rattle.std.proofs.Common.{◌≡◌, ◌≢◌, ℕ, zero, suc, ◌+◌, ◌-◌, ◌≤◌, if◌then◌else◌, List, [], ◌∷◌, ◌++◌, length, map, Some, refl, sym, ap, ◌∙◌, arith}
-use Rattle.std.proofs.lemmas.Bool.{eq-eqb, ne_eqb}
+use Rattle.std.proofs.Common.{◌≡◌, ◌≢◌, ℕ, zero, suc, ◌+◌, ◌-◌, ◌<◌, ◌≤◌, Bool, true, false, ◌&&◌, ◌==◌, if◌then◌else◌, List, [], ◌∷◌, ◌++◌, length, map, take, get_or, Some, refl, sym, ap, ◌∙◌, arith}
+use Rattle.std.proofs.lemmas.Bool.{and_from, and_parts, eq-eqb, eqb-true, ne_eqb}
+use Rattle.fancy_expr.proofs.Listed.{true_false}
+use Rattle.fancy_info.specs.declared.size.Size as code
+use Rattle.fancy_info.specs.Sized.{size_of}
+use Rattle.fancy_analysis.specs.Rounds.{same_bool, same_size, same_sizes}
 use Rattle.fancy_meaning.specs.Tree.{Tree, Within}
 use Rattle.fancy_meaning.specs.Nodes.{groups, group_count, body_in, target}
 use Rattle.fancy_meaning.specs.Numbering.{numbered_within}
@@ -108,3 +112,65 @@ settled whole i le h =
 pub last_round : (whole : Tree) (i : ℕ) → i ≡ group_count whole → after_rounds whole i ≡ known_of whole
 unfolding known_of
 last_round whole i h = ap (after_rounds whole) h
+
+-- ---- sizes that are the same
+
+same_flag : (a b : Bool) → same_bool a b ≡ true → a ≡ b
+same_flag true b h = sym h
+same_flag false true h = absurd (true_false (sym h))
+same_flag false false h = refl
+
+same_fields : (a b : Size) → a.least ≡ b.least → a.most ≡ b.most → a.is_const ≡ b.is_const → a ≡ b
+same_fields a b least most flag =
+    ap (λ x. record { least = x; most = a.most; is_const = a.is_const }) least
+    ∙ ap (λ x. record { least = b.least; most = x; is_const = a.is_const }) most
+    ∙ ap (λ x. record { least = b.least; most = b.most; is_const = x }) flag
+
+same_here : (a b : Size) → same_size a b ≡ true → a ≡ b
+same_here a b h =
+    let parts = and_parts ((a.least == b.least) && (a.most == b.most)) (same_bool a.is_const b.is_const) h in
+    let first = and_parts (a.least == b.least) (a.most == b.most) parts.0 in
+    same_fields a b (eqb-true a.least b.least first.0) (eqb-true a.most b.most first.1) (same_flag a.is_const b.is_const parts.1)
+
+pub same_known : (a b : Known) → same_sizes a b ≡ true → a ≡ b
+same_known [] [] h = refl
+same_known [] (y ∷ ys) h = absurd (true_false (sym h))
+same_known (x ∷ xs) [] h = absurd (true_false (sym h))
+same_known (x ∷ xs) (y ∷ ys) h =
+    let parts = and_parts (same_size x y) (same_sizes xs ys) h in
+    ap (λ s. s ∷ xs) (same_here x y parts.0) ∙ ap (λ l. y ∷ l) (same_known xs ys parts.1)
+
+-- ---- as far as they were compared
+
+and_false : (b : Bool) → (b && false) ≡ false
+and_false true = refl
+and_false false = refl
+
+pub same_more : (xs ys : Known) (i : ℕ) → i < length xs → i < length ys → same_sizes (take i xs) (take i ys) ≡ true →
+    same_size (get_or xs i unknown) (get_or ys i unknown) ≡ true → same_sizes (take (suc i) xs) (take (suc i) ys) ≡ true
+same_more [] ys i p q before here = absurd (omega arith)
+same_more (x ∷ xs) [] i p q before here = absurd (omega arith)
+same_more (x ∷ xs) (y ∷ ys) zero p q before here = and_from (same_size x y) true here refl
+same_more (x ∷ xs) (y ∷ ys) (suc i) p q before here =
+    let parts = and_parts (same_size x y) (same_sizes (take i xs) (take i ys)) before in
+    and_from (same_size x y) (same_sizes (take (suc i) xs) (take (suc i) ys)) parts.0 (same_more xs ys i (omega arith) (omega arith) parts.1 here)
+
+pub differ_at : (xs ys : Known) (i : ℕ) → i < length xs → i < length ys → same_size (get_or xs i unknown) (get_or ys i unknown) ≡ false →
+    same_sizes xs ys ≡ false
+differ_at [] ys i p q h = absurd (omega arith)
+differ_at (x ∷ xs) [] i p q h = absurd (omega arith)
+differ_at (x ∷ xs) (y ∷ ys) zero p q h = ap (λ b. b && same_sizes xs ys) h
+differ_at (x ∷ xs) (y ∷ ys) (suc i) p q h =
+    ap (λ b. same_size x y && b) (differ_at xs ys i (omega arith) (omega arith) h) ∙ and_false (same_size x y)
+
+pub differ_in_length : (xs ys : Known) → length xs ≢ length ys → same_sizes xs ys ≡ false
+differ_in_length [] [] h = absurd (h refl)
+differ_in_length [] (y ∷ ys) h = refl
+differ_in_length (x ∷ xs) [] h = refl
+differ_in_length (x ∷ xs) (y ∷ ys) h =
+    ap (λ b. same_size x y && b) (differ_in_length xs ys (λ e. h (ap suc e))) ∙ and_false (same_size x y)
+
+pub mapped_at : (xs : List code.Size) (i : ℕ) (d : code.Size) → i < length xs → get_or (map size_of xs) i unknown ≡ size_of (get_or xs i d)
+mapped_at [] i d lt = absurd (omega arith)
+mapped_at (x ∷ xs) zero d lt = refl
+mapped_at (x ∷ xs) (suc i) d lt = mapped_at xs i d (omega arith)

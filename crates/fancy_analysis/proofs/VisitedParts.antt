@@ -1,6 +1,9 @@
 -- Children that are visited one by one.
-use Rattle.std.proofs.Common.{◌≡◌, ℕ, suc, ◌+◌, ◌<◌, ◌≤◌, List, [], ◌∷◌, ◌++◌, length, map, take, get_or, refl, sym, ap, ◌∙◌, subst, arith}
+use Rattle.std.proofs.Common.{◌≡◌, ℕ, suc, ◌+◌, ◌<◌, ◌≤◌, List, [], ◌∷◌, ◌++◌, Contains, length, map, take, get_or, refl, sym, ap, ◌∙◌, subst, arith}
 use Rattle.std.proofs.lemmas.List.{map-append, take_all, length-map}
+use Rattle.std.proofs.lemmas.List.Elements.{Contains-append_left, Contains-append_right}
+use Rattle.fancy_meaning.specs.Sizes.{Known, known_of}
+use Rattle.fancy_analysis.specs.Rounds.{Agree}
 use Rattle.fancy_meaning.specs.Tree as plain
 use Rattle.fancy_meaning.specs.Tree.{Tree, more, trees, parts}
 use Rattle.fancy_meaning.specs.Nodes.{group_count}
@@ -21,8 +24,8 @@ use Rattle.fancy_expr.specs.Walk.{start_inside, within_inside}
 use Rattle.fancy_analysis.specs.Made.{tables_known, IsSized, IsMadeNode, Suits}
 use Rattle.fancy_analysis.specs.Visited.{IsVisited}
 use Rattle.fancy_expr.proofs.Groups.{group_total, total-append, count-total, total-taken, total-all}
-use Rattle.fancy_expr.proofs.Walks.{taken}
-use Rattle.fancy_expr.proofs.Exprs.{parts-below}
+use Rattle.fancy_expr.proofs.Walks.{each-taken, taken}
+use Rattle.fancy_expr.proofs.Exprs.{exprs-below, parts-below}
 use Rattle.fancy_expr.proofs.Starts.{start-own}
 use Rattle.fancy_expr.proofs.Numbered.{count-numbered}
 
@@ -41,8 +44,28 @@ pub record AreVisited (t : VisitTables) (es : List Expr) (start : ℕ) (w : plai
   pub trees : map info_tree infos ≡ each_from w start es
   pub in_turn : AreInTurn w start infos
   pub ends : end_of start infos ≡ next
-  pub sizes : Each (IsSized (tables_known t)) infos
-  pub found : (a : Analysis) → Suits a t → Each (IsAnalysed a) infos
+  pub sizes : (known : Known) → Agree (tables_known t) known (exprs_of_each es) → Each (IsSized known) infos
+  pub found : (a : Analysis) → Suits a t → Agree (tables_known t) (known_of a.tree) (exprs_of_each es) → Each (IsAnalysed a) infos
+
+-- ---- what agrees on the numbers that are named
+
+-- what agrees for all nodes up to a child agrees for those before it, and for its own
+agree_both : (one two : Known) (es : List Expr) (i : ℕ) (e : Expr) → i < length es → e ≡ get_or es i e → Agree one two (exprs_of_each (take (i + 1) es)) →
+    Agree one two (exprs_of_each (take i es)) × Agree one two (exprs e)
+agree_both one two es i e h at agree =
+    let is = each-taken es i e h at in (
+      λ x there. agree x (subst (λ l. Contains l x) (sym is) (Contains-append_left (exprs_of_each (take i es)) (exprs e) x there)),
+      λ x there. agree x (subst (λ l. Contains l x) (sym is) (Contains-append_right (exprs_of_each (take i es)) (exprs e) x there)),
+    )
+
+-- what agrees for a node and all below it
+agree_parts : (one two : Known) (e : Expr) (i : ℕ) → length (below e) ≤ i → Agree one two (exprs e) →
+    Agree one two (e ∷ []) × Agree one two (exprs_of_each (take i (below e)))
+agree_parts one two e i h agree = (
+  λ x there. agree x (subst (λ l. Contains l x) (sym (exprs-below e)) (Contains-append_left (e ∷ []) (exprs_of_each (below e)) x there)),
+  λ x there. agree x (subst (λ l. Contains l x) (sym (exprs-below e))
+      (Contains-append_right (e ∷ []) (exprs_of_each (below e)) x (subst (λ l. Contains (exprs_of_each l) x) (take_all i (below e) h) there))),
+)
 
 -- ---- one more
 
@@ -67,7 +90,7 @@ from-more w n m (x ∷ es) e at =
     ap (λ l. numbered_within w n (tree_of x) ∷ l) (from-more w (n + group_count (tree_of x)) m es e rest)
 
 pub visited_none : (t : VisitTables) (w : plain.Within) (n : ℕ) → AreVisited t [] n w n []
-visited_none t w n = record { counted = omega arith; exprs = refl; trees = refl; in_turn = tt; ends = refl; sizes = tt; found = λ a suits. tt }
+visited_none t w n = record { counted = omega arith; exprs = refl; trees = refl; in_turn = tt; ends = refl; sizes = λ known agree. tt; found = λ a suits agree. tt }
 
 module _ (t : VisitTables) (es : List Expr) (i : ℕ) (e : Expr) (start : ℕ) (w : plain.Within) (next : ℕ) (infos after : List Info) (info : Info) where
   pub visited_more : i < length es → e ≡ get_or es i e → AreVisited t (take i es) start w next infos → IsVisited t e next w info → after ≡ infos ++ info ∷ [] →
@@ -86,8 +109,10 @@ module _ (t : VisitTables) (es : List Expr) (i : ℕ) (e : Expr) (start : ℕ) (
             ∙ ap (each_from w start) (sym (taken es i e h at));
         in_turn = turn-more w start infos info before.in_turn here.within (here.start_group ∙ sym before.ends);
         ends = end-more start infos info;
-        sizes = each-more (IsSized (tables_known t)) infos info before.sizes here.size;
-        found = λ a suits. each-more (IsAnalysed a) infos info (before.found a suits) (here.found a suits);
+        sizes = λ known agree. let both = agree_both (tables_known t) known es i e h at agree in
+            each-more (IsSized known) infos info (before.sizes known both.0) (here.size known both.1);
+        found = λ a suits agree. let both = agree_both (tables_known t) (known_of a.tree) es i e h at agree in
+            each-more (IsAnalysed a) infos info (before.found a suits both.0) (here.found a suits both.1);
       })
 
 -- ---- the node over its children
@@ -134,7 +159,10 @@ visited_node t e i start w next infos info h before made =
       start_group = made.start_group;
       end_group = made.end_group ∙ ends;
       within = made.within;
-      size = made.size arity before.sizes;
-      found = λ a suits. made.found a suits arity (before.exprs ∙ take_all i (below e) h) before.sizes (before.found a suits) before.in_turn
+      size = λ known agree. let parts = agree_parts (tables_known t) known e i h agree in
+          made.size known parts.0 arity (before.sizes known parts.1);
+      found = λ a suits agree. let parts = agree_parts (tables_known t) (known_of a.tree) e i h agree in
+          made.found a suits parts.0 arity (before.exprs ∙ take_all i (below e) h) (before.sizes (known_of a.tree) parts.1) (before.found a suits parts.1)
+          before.in_turn
           (ends ∙ ap (λ k. start + k) (sym (ap group_count tree ∙ count-numbered w start (tree_of e))));
     }

@@ -1,11 +1,11 @@
 -- Which parts can end, where flags say it of the targets, and the rounds of those flags.
-use Rattle.std.specs.Prelude.{◌≡◌, ℕ, zero, suc, ◌+◌, ◌≤◌, Bool, true, false, ◌&&◌, ◌||◌, ◌==◌, nat_lt, List, [], ◌∷◌, slice_index_or, slice_set}
-use Rattle.std.specs.Borrow.{Bor}
-use Rattle.std.specs.List.{All, list_any}
+use Rattle.std.specs.Prelude.{◌≡◌, ℕ, zero, suc, ◌+◌, ◌≤◌, max, Bool, true, false, ◌&&◌, ◌||◌, ◌==◌, List, [], ◌∷◌, length, map, replicate, slice_index_or}
+use Rattle.std.specs.List.{list_any}
 use Rattle.fancy_meaning.specs.Tree as plain
 use Rattle.fancy_meaning.specs.Tree.{Tree, Trees, none, more}
 use Rattle.fancy_meaning.specs.Nodes.{nodes, group_count}
 use Rattle.fancy_meaning.specs.Numbering.{numbered}
+use Rattle.fancy_meaning.specs.Places.{range_from}
 use Rattle.fancy_meaning.specs.Options.{Analysis}
 use Rattle.fancy_analysis.specs.declared.endings.PartEnds.{PartEnds}
 use Rattle.fancy_info.specs.declared.info.Info.{Info}
@@ -13,19 +13,28 @@ use Rattle.fancy_info.specs.declared.info.Info.TheViews.{out-Info}
 use Rattle.fancy_expr.specs.declared.expr.Expr.{Expr}
 use Rattle.fancy_expr.specs.declared.expr.Expr.TheVariants as code
 use Rattle.fancy_meaning.specs.Sizes.{known_of}
-use Rattle.fancy_info.specs.Infos.{info_tree, info_facts, IsAnalysed}
+use Rattle.fancy_info.specs.Infos.{info_tree, IsAnalysed}
 use Rattle.fancy_analysis.specs.Made.{IsSized}
+use Rattle.fancy_analysis.specs.Rounds.{rounds_from}
 
--- the tree of an analysis, as the walk leaves it
-pub record IsWhole (a : Analysis) (root : Info) : Type 0 where
-  pub tree : info_tree root ≡ a.tree
-  pub analysed : IsAnalysed a root
-  pub sized : IsSized (known_of a.tree) root
+-- the root of a tree whose groups are numbered, with the sizes of its nodes
+pub record IsRootOf (whole : Tree) (root : Info) : Type 0 where
+  pub tree : info_tree root ≡ whole
+  pub sized : IsSized (known_of whole) root
   pub first : ℕ
   pub is_first : first ≤ 1
   pub parsed : Tree
-  pub numbered : a.tree ≡ numbered first parsed
-  pub end_group : (out-Info root).end_group ≡ first + group_count a.tree
+  pub numbered : whole ≡ numbered first parsed
+  pub end_group : (out-Info root).end_group ≡ first + group_count whole
+
+-- the tree of an analysis, as the walk leaves it
+pub record IsWhole (a : Analysis) (info : Info) : Type 0 where
+  pub analysed : IsAnalysed a info
+  pub root : IsRootOf a.tree info
+
+-- how many flags there are, for the whole tree and its groups
+abbrev pub flag_count : Info → ℕ
+flag_count root = max (out-Info root).end_group 1
 
 -- a part ends if each target with a flag does
 abbrev mutual
@@ -93,31 +102,14 @@ set_count [] = 0
 set_count (true ∷ flags) = suc (set_count flags)
 set_count (false ∷ flags) = set_count flags
 
--- ---- the groups that are asked along the calls
+-- the flags of one round more: those that are set stay so, and each target is set that ends by them
+abbrev pub next_ends : Tree → List Bool → List Bool
+next_ends whole flags =
+    map (λ g. slice_index_or flags g false || target_ends flags whole g) (range_from 0 (length flags))
 
--- flags that are set one after another, each of a target that ends by those before
-pub data SetsEnds (whole : Tree) (old : List Bool) : List Bool → Type 0 where
-  none_set : SetsEnds whole old old
-  one_more : {flags : List Bool} (g : ℕ) → SetsEnds whole old flags → target_ends flags whole g ≡ true →
-      SetsEnds whole old (slice_set flags g true)
+abbrev pub same_count : List Bool → List Bool → Bool
+same_count a b = set_count a == set_count b
 
--- a node with a group number is a group, but not group 0
-abbrev pub is_open : Expr → ℕ → Bool
-is_open (code.Group' b e) n = nat_lt 0 n
-is_open e n = false
-
-abbrev pub is_open_group : Info → Bool
-is_open_group i = is_open (info_facts i).expr (info_facts i).start_group
-
--- the node stands in the tree of an analysis
-pub record IsNodeOf (a : Analysis) (root i : Info) : Type 0 where
-  pub analysed : IsAnalysed a root → IsAnalysed a i
-  pub inside : IsAnalysed a root → (test : Tree → Bool) → list_any test (nodes (info_tree i)) ≡ true →
-      list_any test (nodes (info_tree root)) ≡ true
-
-pub record IsGroupOf (a : Analysis) (root i : Info) : Type 0 where
-  pub node : IsNodeOf a root i
-  pub is_group : is_open_group i ≡ true
-
-abbrev pub AreGroupsOf : Analysis → Info → List (Bor Info) → Type 0
-AreGroupsOf a root groups = All (λ b. IsGroupOf a root b.now) groups
+-- how many rounds find a target that can end, up to the first that finds none, with so many flags
+unfoldable pub ending_rounds : Tree → ℕ → ℕ
+ending_rounds whole n = rounds_from same_count (next_ends whole) (replicate n false) n

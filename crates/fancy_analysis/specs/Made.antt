@@ -20,6 +20,7 @@ use Rattle.fancy_info.specs.Sized.{size_of}
 use Rattle.fancy_info.specs.Infos.{analysis_options_of, node_over, info_tree, info_expr, info_within, EachNode, Facts, tree_over, AreInTurn, IsAnalysed}
 use Rattle.fancy_expr.specs.Each.{Each}
 use Rattle.fancy_expr.specs.Walk.{start_inside, within_inside}
+use Rattle.fancy_analysis.specs.Rounds.{Agree}
 
 abbrev pub nth_size : List Size → ℕ → Size
 nth_size [] i = exactly 0
@@ -112,13 +113,12 @@ pub record IsSizedNode (known : Known) (f : Facts) (children : List Info) : Type
 abbrev pub IsSized : Known → Info → Type 0
 IsSized known = EachNode (IsSizedNode known)
 
--- what the walk goes by is that of the analysis
+-- what the walk goes by is that of the analysis, but for the sizes by number
 pub record Suits (a : Analysis) (t : VisitTables) : Type 0 where
   pub options : analysis_options_of t.context ≡ a.options
   pub reads : (g : ℕ) → slice_index_or t.reads.now g false ≡ is_read a.tree g
-  pub known : tables_known t ≡ known_of a.tree
 
--- a node that was made over its children
+-- a node that was made over its children; its size is right by all sizes that agree on the number that it names
 pub record IsMadeNode (t : VisitTables) (e : Expr) (start end : ℕ) (w : plain.Within) (children : List Info)
     (info : Info) : Type 0 where
   pub expr : info_expr info ≡ e
@@ -126,9 +126,10 @@ pub record IsMadeNode (t : VisitTables) (e : Expr) (start end : ℕ) (w : plain.
   pub start_group : (out-Info info).start_group ≡ start
   pub end_group : (out-Info info).end_group ≡ end
   pub within : info_within info ≡ w
-  pub size : length children ≡ length (below e) → Each (IsSized (tables_known t)) children →
-      IsSized (tables_known t) info
-  pub found : (a : Analysis) → Suits a t → length children ≡ length (below e) → map info_expr children ≡ below e →
-      Each (IsSized (tables_known t)) children → Each (IsAnalysed a) children →
+  pub size : (known : Known) → Agree (tables_known t) known (e ∷ []) → length children ≡ length (below e) →
+      Each (IsSized known) children → IsSized known info
+  pub found : (a : Analysis) → Suits a t → Agree (tables_known t) (known_of a.tree) (e ∷ []) →
+      length children ≡ length (below e) → map info_expr children ≡ below e →
+      Each (IsSized (known_of a.tree)) children → Each (IsAnalysed a) children →
       AreInTurn (within_inside e w) (start_inside e start) children →
       end ≡ start + group_count (info_tree info) → IsAnalysed a info

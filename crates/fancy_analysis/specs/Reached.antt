@@ -1,8 +1,7 @@
 -- Flags of targets: those that links reach, and those that lead into a cycle.
-use Rattle.std.specs.Prelude.{◌≡◌, ℕ, ◌<◌, Bool, true, false, not, ◌⊎◌, ◌↔◌, ◌+◌, ◌≤◌, List, Vec, length, Contains, All, slice_index_or, count_by}
+use Rattle.std.specs.Prelude.{◌≡◌, ℕ, ◌<◌, Bool, true, false, not, ◌⊎◌, ◌+◌, ◌≤◌, List, [], Vec, length, map, Contains, All, slice_index_or, count_by}
 use Rattle.std.specs.Global.{Global}
 use Rattle.fancy_analysis.specs.declared.links.Link.{Link}
-use Rattle.fancy_analysis.specs.Dependents.{listed}
 
 -- a link leads from one number to another
 pub record IsLinked (links : List Link) (from to : ℕ) : Type 0 where
@@ -39,6 +38,17 @@ pub record LeadsIntoCycle (links : List Link) (n : ℕ) : Type 0 where
 abbrev pub flag : List Bool → ℕ → Bool
 flag flags n = slice_index_or flags n false
 
+-- the list of a number
+abbrev pub listed : List (Vec ℕ Global) → ℕ → List ℕ
+listed lists g = slice_index_or (map (λ v. v.items) lists) g []
+
+-- one number more stands in the list of another, if it has one
+pub record ListsOneMore (old new : List (Vec ℕ Global)) (number to : ℕ) : Type 0 where
+  pub same_length : length new ≡ length old
+  pub kept : (h g : ℕ) → Contains (listed old h) g → Contains (listed new h) g
+  pub there : number < length new → Contains (listed new number) to
+  pub only : (h g : ℕ) → Contains (listed new h) g → Contains (listed old h) g ⊎ ((h ≡ number) × (g ≡ to))
+
 -- so many are not set
 abbrev pub unset_count : List Bool → ℕ
 unset_count flags = count_by not flags
@@ -70,10 +80,6 @@ pub record AreReached (links : List Link) (flags : List Bool) : Type 0 where
   pub room : HasRoom links flags
   pub only : (n : ℕ) → flag flags n ≡ true → IsReached links n
   pub all : (n : ℕ) → IsReached links n → n < length flags → flag flags n ≡ true
-
--- the numbers that are set are those that lead into a cycle
-abbrev pub LeadIntoCycles : List Link → List Bool → Type 0
-LeadIntoCycles links flags = (n : ℕ) → (flag flags n ≡ true) ↔ LeadsIntoCycle links n
 
 -- the least that is reached and leads into a cycle
 pub record IsLeastIntoCycle (links : List Link) (n : ℕ) : Type 0 where

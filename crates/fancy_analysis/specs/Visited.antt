@@ -8,7 +8,10 @@ use Rattle.fancy_analysis.specs.declared.make.VisitTables.{VisitTables}
 use Rattle.fancy_info.specs.declared.info.Info.{Info}
 use Rattle.fancy_info.specs.declared.info.Info.TheViews.{out-Info}
 use Rattle.fancy_expr.specs.declared.expr.Expr.{Expr}
+use Rattle.fancy_meaning.specs.Sizes.{Known, known_of}
+use Rattle.fancy_expr.specs.Exprs.{exprs}
 use Rattle.fancy_expr.specs.Views.{tree_of}
+use Rattle.fancy_analysis.specs.Rounds.{Agree}
 use Rattle.fancy_info.specs.Infos.{info_tree, info_expr, info_within, IsAnalysed}
 use Rattle.fancy_analysis.specs.Made.{tables_known, IsSized, Suits}
 
@@ -18,5 +21,6 @@ pub record IsVisited (t : VisitTables) (e : Expr) (start : ℕ) (w : plain.Withi
   pub start_group : (out-Info info).start_group ≡ start
   pub end_group : (out-Info info).end_group ≡ start + group_count (tree_of e)
   pub within : info_within info ≡ w
-  pub size : IsSized (tables_known t) info
-  pub found : (a : Analysis) → Suits a t → IsAnalysed a info
+  -- by all sizes that agree on the numbers that are named
+  pub size : (known : Known) → Agree (tables_known t) known (exprs e) → IsSized known info
+  pub found : (a : Analysis) → Suits a t → Agree (tables_known t) (known_of a.tree) (exprs e) → IsAnalysed a info

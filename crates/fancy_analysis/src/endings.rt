@@ -1,28 +1,15 @@
-//! Targets that can end, as a set that grows in rounds until none is added.
+//! Which targets can end: a set that grows by rounds until one adds none.
 
-ghost use Rattle.std.specs.Prelude.{
-  ◌≡◌,
-  ◌&&◌,
-  ◌||◌,
-  ℕ,
-  IfOk,
-  IsTrue,
-  true,
-  ◌↔◌,
-  false,
-  length,
-  nat_lt,
-  ◌<◌,
-  slice_index_or,
-};
-ghost use Rattle.fancy_meaning.specs.Options.{Analysis};
+ghost use Rattle.std.specs.Prelude.{◌≡◌, ◌&&◌, ◌||◌, ◌↔◌, ◌<◌, ◌≤◌, ℕ, IfOk, IfSome, IsTrue, MatchOption, false, length, nat_lt, slice_index_or, true};
 ghost use Rattle.fancy_meaning.specs.Recursion.{CanEnd};
-ghost use Rattle.fancy_analysis.specs.Endings.{IsWhole, and_then, ends_by, group_ends, is_own_end, no_parts, node_ends, set_count, target_ends};
-ghost use Rattle.fancy_info.specs.Infos.{IsAnalysed, info_tree};
+ghost use Rattle.fancy_meaning.specs.Sizes.{Known};
+ghost use Rattle.fancy_meaning.specs.Tree as plain;
+ghost use Rattle.fancy_analysis.specs.Endings.{IsRootOf, and_then, ending_rounds, ends_by, flag_count, group_ends, is_own_end, no_parts, node_ends, set_count, target_ends};
+ghost use Rattle.fancy_analysis.specs.Made.{IsSized};
+ghost use Rattle.fancy_info.specs.Infos.{info_tree};
 ghost use Rattle.fancy_info.specs.declared.info.Info.TheViews.{out-Info};
 
 use crate::reads::no_flags;
-use crate::settle::CallGraph;
 use fancy_expr::expr::Expr;
 use fancy_info::info::Info;
 use std::alloc::{AllocError, Global};
@@ -109,10 +96,10 @@ fn set_flag(expr: &Expr, group: usize, ends: bool, flags: &mut [bool])
 /// Whether a node ends by the flags, and the flags of its groups that do.
 fn find_ends(flags: &[bool], info: &Info, next: &mut [bool]) -> bool
     ensures length { length next.new ≡ length next.old }
-    ensures ends { (a : Analysis) → IsAnalysed a info.now →
+    ensures ends { (known : Known) → IsSized known info.now →
         result ≡ ends_by flags.now (info_tree info.now) }
-    ensures next { (a : Analysis)
-        → IsAnalysed a info.now
+    ensures next { (known : Known)
+        → IsSized known info.now
         → (g : ℕ)
         → slice_index_or next.new g false
         ≡ (slice_index_or next.old g false ||
@@ -126,19 +113,6 @@ fn find_ends(flags: &[bool], info: &Info, next: &mut [bool]) -> bool
     let ends = node_ends(flags, info.expr, parts);
     set_flag(info.expr, info.start_group, ends, next);
     ends
-}
-
-/// Whether a node ends by the flags.
-pub fn ends(flags: &[bool], info: &Info) -> bool
-    ensures { (a : Analysis) → IsAnalysed a info.now →
-        result ≡ ends_by flags.now (info_tree info.now) }
-{
-    let mut parts = PartEnds::none();
-    for child in &info.children {
-        let child_ends = ends(flags, child);
-        parts = parts.and_then(child_ends);
-    }
-    node_ends(flags, info.expr, parts)
 }
 
 fn count_set(flags: &[bool]) -> usize
@@ -158,8 +132,8 @@ fn set_ends(root: &Info, flags: &[bool], next: &mut [bool])
     requires same { next.now ≡ flags.now }
     requires some { 0 < length flags.now }
     ensures length { length next.new ≡ length flags.now }
-    ensures flags { (a : Analysis)
-        → IsAnalysed a root.now
+    ensures flags { (known : Known)
+        → IsSized known root.now
         → (g : ℕ)
         → slice_index_or next.new g false
         ≡ (slice_index_or flags.now g false ||
@@ -173,8 +147,8 @@ fn set_ends(root: &Info, flags: &[bool], next: &mut [bool])
 fn next_flags(alloc: Global, root: &Info, flags: &[bool]) -> Result<Vec<bool>, AllocError>
     requires { 0 < length flags.now }
     ensures length { IfOk result (λ v. length v.items ≡ length flags.now) }
-    ensures flags { (a : Analysis)
-        → IsAnalysed a root.now
+    ensures flags { (known : Known)
+        → IsSized known root.now
         → IfOk
         result
         (λ v. (g : ℕ)
@@ -188,23 +162,39 @@ fn next_flags(alloc: Global, root: &Info, flags: &[bool]) -> Result<Vec<bool>, A
     Ok(next)
 }
 
-/// Whether the whole tree can end, given its root.
-///
-/// In each round the calls are followed first. What they do not tell, a walk over the whole tree finds, and the round in
-/// which it finds nothing is the last.
-pub fn can_end(alloc: Global, root: &Info) -> Result<bool, AllocError>
-    ensures { (a : Analysis) → IsWhole a root.now →
-        IfOk result (λ ends. IsTrue ends ↔ CanEnd a.tree a.tree) }
+/// Whether the whole tree can end, given its root. `None` if more than `most` rounds find a target that can end: then no
+/// round is made behind the one that exceeds it.
+pub fn ends_within(alloc: Global, root: &Info, most: usize) -> Result<Option<bool>, AllocError>
+    ensures ends { (whole : plain.Tree) → IsRootOf whole root.now →
+        IfOk result (λ found. IfSome found (λ ends. IsTrue ends ↔ CanEnd whole whole)) }
+    ensures rounds { (whole : plain.Tree) → IsRootOf whole root.now →
+        IfOk result (λ found. MatchOption
+        found
+        (most < ending_rounds whole (flag_count root.now))
+        (λ _. ending_rounds whole (flag_count root.now) ≤ most)) }
 {
     let mut flags = no_flags(alloc, root.end_group.max(1))?;
-    let calls = CallGraph::of(alloc, root, flags.len())?;
-    for _ in 0..flags.len() {
-        calls.settle(alloc, &mut flags)?;
+    for round in 0..flags.len() {
         let next = next_flags(alloc, root, &flags)?;
         if count_set(&next) == count_set(&flags) {
-            return Ok(flags[0]);
+            return Ok(Some(flags[0]));
+        }
+        if round >= most {
+            return Ok(None);
         }
         flags = next;
     }
-    Ok(flags[0])
+    Ok(Some(flags[0]))
+}
+
+/// Whether the whole tree can end, given its root.
+pub fn can_end(alloc: Global, root: &Info) -> Result<bool, AllocError>
+    ensures { (whole : plain.Tree) → IsRootOf whole root.now →
+        IfOk result (λ ends. IsTrue ends ↔ CanEnd whole whole) }
+{
+    match ends_within(alloc, root, root.end_group.max(1))? {
+        Some(ends) => Ok(ends),
+        // There are no more rounds than flags.
+        None => Ok(false),
+    }
 }

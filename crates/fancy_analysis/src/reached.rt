@@ -1,21 +1,8 @@
-//! The targets that links reach, and those that lead into a cycle, as sets of flags.
+//! The targets that links reach, as a set of flags.
 
-ghost use Rattle.std.specs.Prelude.{◌≡◌, ◌<◌, ◌≤◌, ◌↔◌, ◌∷◌, ℕ, [], All, IfOk, IsTrue, MatchOption, false, length, true};
-ghost use Rattle.fancy_analysis.specs.Callers.{count_at};
-ghost use Rattle.fancy_analysis.specs.Reached.{
-  AreReached,
-  AreWays,
-  HasRoom,
-  IsLeastIntoCycle,
-  IsReached,
-  LeadIntoCycles,
-  LeadsIntoCycle,
-  Reaches,
-  flag,
-};
+ghost use Rattle.std.specs.Prelude.{◌≡◌, ◌<◌, ◌≤◌, ◌∷◌, [], All, IfOk, false, length};
+ghost use Rattle.fancy_analysis.specs.Reached.{AreReached, AreWays, HasRoom, ListsOneMore, Reaches, flag};
 
-use crate::callers::counts_into_cycles;
-use crate::dependents::{list_under, no_lists};
 use crate::links::Link;
 use std::alloc::{AllocError, Global};
 
@@ -53,8 +40,30 @@ fn flags_for(alloc: Global, links: &[Link]) -> Result<Vec<bool>, AllocError>
     Ok(flags)
 }
 
+pub fn no_lists(alloc: Global, count: usize) -> Result<Vec<Vec<usize>>, AllocError>
+    ensures length { IfOk result (λ v. length v.items ≡ count) }
+    ensures none { IfOk result (λ v. All (λ list. list.items ≡ []) v.items) }
+{
+    let mut lists = Vec::new(alloc);
+    for i in 0..count {
+        lists.push(Vec::new(alloc))?;
+    }
+    Ok(lists)
+}
+
+/// Adds to the list of a number, if it has one.
+fn list_under(lists: &mut Vec<Vec<usize>>, number: usize, to: usize) -> Result<(), AllocError>
+    ensures { IfOk result (λ _. ListsOneMore lists.old.items lists.new.items number to) }
+{
+    if number >= lists.len() {
+        return Ok(());
+    }
+    lists[number].push(to)?;
+    Ok(())
+}
+
 /// Under each of so many numbers, to where links lead from it.
-fn ways(alloc: Global, links: &[Link], numbers: usize) -> Result<Vec<Vec<usize>>, AllocError>
+pub fn ways(alloc: Global, links: &[Link], numbers: usize) -> Result<Vec<Vec<usize>>, AllocError>
     requires { All (λ link. link.from < numbers) links.now }
     ensures length { IfOk result (λ v. length v.items ≡ numbers) }
     ensures ways { IfOk result (λ v. AreWays links.now v.items) }
@@ -101,60 +110,4 @@ pub fn reached(alloc: Global, links: &[Link]) -> Result<Vec<bool>, AllocError>
         reach_all(&ways[number], &mut flags, &mut next)?;
     }
     Ok(flags)
-}
-
-fn is_counted(counts: &[usize], number: usize) -> bool
-    ensures { IsTrue result ↔ (0 < count_at counts.now number) }
-{
-    match counts.get(number) {
-        Some(count) => *count > 0,
-        None => false,
-    }
-}
-
-/// Sets the flags of all that have a count, and clears the others.
-fn flag_counted(counts: &[usize], flags: &mut [bool])
-    ensures { (n : ℕ) → (flag flags.new n ≡ true) ↔
-        ((n < length flags.old) × (0 < count_at counts.now n)) }
-{
-    for i in 0..flags.len() {
-        flags[i] = is_counted(counts, i);
-    }
-}
-
-/// From which targets links at once lead into a cycle.
-pub fn into_cycles(alloc: Global, links: &[Link]) -> Result<Vec<bool>, AllocError>
-    ensures { IfOk result (λ v. LeadIntoCycles links.now v.items) }
-{
-    let mut flags = flags_for(alloc, links)?;
-    let counts = counts_into_cycles(alloc, links, flags.len())?;
-    flag_counted(&counts, &mut flags);
-    Ok(flags)
-}
-
-fn first_in_both(a: &[bool], b: &[bool]) -> Option<usize>
-    ensures { MatchOption
-        result
-        ((n : ℕ) → flag a.now n ≡ true → flag b.now n ≡ true → ⊥)
-        (λ n. (flag a.now n ≡ true) × (flag b.now n ≡ true)
-        × ((m : ℕ) → m < n → flag a.now m ≡ true → flag b.now m ≡ true → ⊥)) }
-{
-    for i in 0..a.len() {
-        if a[i] && is_set(b, i) {
-            return Some(i);
-        }
-    }
-    None
-}
-
-/// The least target that is reached and from which links at once lead into a cycle.
-pub fn least_into_cycle(alloc: Global, links: &[Link]) -> Result<Option<usize>, AllocError>
-    ensures { IfOk
-        result
-        (λ r. MatchOption r ((n : ℕ) → IsReached links.now n → ¬ LeadsIntoCycle links.now n)
-        (λ n. IsLeastIntoCycle links.now n)) }
-{
-    let reached = reached(alloc, links)?;
-    let into_cycles = into_cycles(alloc, links)?;
-    Ok(first_in_both(&reached, &into_cycles))
 }

@@ -10,8 +10,8 @@ ghost use Rattle.fancy_analysis.specs.Made.{IsSized};
 ghost use Rattle.fancy_analysis.specs.Names.{IsDescriptionOfLeast, names_of};
 ghost use Rattle.fancy_expr.specs.declared.error.Error.TheVariants.{Memory};
 
+use crate::cycle_search::least_into_cycle;
 use crate::links::links_of;
-use crate::reached::least_into_cycle;
 use fancy_expr::error::Error;
 use fancy_info::info::Info;
 use std::alloc::{AllocError, Global};

@@ -1,13 +1,14 @@
-//! The sizes of groups, in rounds over the whole tree, until a round changes nothing.
+//! The sizes of groups, by rounds over the whole tree until one changes nothing.
 
-ghost use Rattle.std.specs.Prelude.{◌≡◌, ◌≤◌, ◌++◌, IfOk, IfSome, IsTrue, is_some, map, replicate};
+ghost use Rattle.std.specs.Prelude.{◌≡◌, ◌<◌, ◌≤◌, ◌++◌, IfOk, MatchOption, map, replicate};
 ghost use Rattle.fancy_meaning.specs.Nodes.{group_count, groups};
 ghost use Rattle.fancy_meaning.specs.Numbering.{numbered_within};
-ghost use Rattle.fancy_meaning.specs.Sizes.{Known, known_of, next_round, size_by, unknown};
+ghost use Rattle.fancy_meaning.specs.Sizes.{Known, next_round, size_by, unknown};
 ghost use Rattle.fancy_meaning.specs.Tree as plain;
 ghost use Rattle.fancy_meaning.specs.WellFormed.{most_groups};
 ghost use Rattle.fancy_info.specs.Infos.{info_tree};
 ghost use Rattle.fancy_analysis.specs.Made.{IsSized, from_0, from_1, own_size, tables_known};
+ghost use Rattle.fancy_analysis.specs.Rounds.{AreRounds, same_size, same_sizes, size_rounds};
 ghost use Rattle.fancy_expr.specs.Views.{tree_of};
 ghost use Rattle.fancy_info.specs.declared.info.Info.TheViews.{out-Info};
 ghost use Rattle.fancy_info.specs.Sized.{size_of};
@@ -50,14 +51,14 @@ fn add_sizes(info: &Info, table: &mut Vec<Size>) -> Result<(), AllocError>
     Ok(())
 }
 
-pub fn is_same(a: Size, b: Size) -> bool
-    ensures { IsTrue result → size_of a ≡ size_of b }
+fn is_same(a: Size, b: Size) -> bool
+    ensures { result ≡ same_size (size_of a) (size_of b) }
 {
     a.least == b.least && a.most == b.most && a.is_const == b.is_const
 }
 
 fn are_same(a: &[Size], b: &[Size]) -> bool
-    ensures { IsTrue result → map size_of a.now ≡ map size_of b.now }
+    ensures { result ≡ same_sizes (map size_of a.now) (map size_of b.now) }
 {
     if a.len() != b.len() {
         return false;
@@ -70,7 +71,7 @@ fn are_same(a: &[Size], b: &[Size]) -> bool
     true
 }
 
-pub fn unknown_sizes(alloc: Global, count: usize) -> Result<Vec<Size>, AllocError>
+fn unknown_sizes(alloc: Global, count: usize) -> Result<Vec<Size>, AllocError>
     ensures { IfOk result (λ v. map size_of v.items ≡ replicate count unknown) }
 {
     let mut sizes = Vec::new(alloc);
@@ -103,7 +104,7 @@ fn sizes_from_0(alloc: Global, info: &Info) -> Result<Vec<Size>, AllocError>
     Ok(table)
 }
 
-pub fn next_sizes(
+fn next_sizes(
     alloc: Global,
     tables: &VisitTables,
     tree: &ExprTree,
@@ -125,8 +126,17 @@ pub fn next_sizes(
     }
 }
 
-/// The sizes by number that the last round goes by. A round that changes nothing is the last that is needed. There is no
-/// answer where more than `most` rounds are.
+/// What the rounds come to.
+#[derive(Drop)]
+pub struct SizeRounds {
+    /// The sizes by number that the last round goes by, that of the whole tree at 0.
+    pub known: Vec<Size>,
+    /// How many rounds changed a size.
+    pub count: usize,
+}
+
+/// The sizes of groups by rounds over the whole tree, until one changes nothing. `None` if more than `most` rounds change
+/// a size: then no round is made behind the one that exceeds it.
 pub fn sizes_by_rounds(
     alloc: Global,
     tree: &ExprTree,
@@ -134,20 +144,17 @@ pub fn sizes_by_rounds(
     reads: &[bool],
     first: usize,
     most: usize,
-) -> Result<Option<Vec<Size>>, AllocError>
+) -> Result<Option<SizeRounds>, AllocError>
     requires groups { tree.now.total_groups ≡ group_count (tree_of tree.now.expr) }
     requires few { tree.now.total_groups ≤ most_groups }
     requires first { first ≤ 1 }
-    ensures sizes { IfOk result (λ found. IfSome found
-        (λ v. map size_of v.items
-        ≡ known_of (numbered_within plain.NoLook first (tree_of tree.now.expr)))) }
-    ensures enough { tree.now.total_groups ≤ most → IfOk result (λ found. IsTrue (is_some found)) }
+    ensures { IfOk result (λ found. MatchOption
+        found
+        (most < size_rounds (numbered_within plain.NoLook first (tree_of tree.now.expr)))
+        (AreRounds (numbered_within plain.NoLook first (tree_of tree.now.expr)) most)) }
 {
     let mut known = unknown_sizes(alloc, tree.total_groups + 1)?;
     for round in 0..tree.total_groups {
-        if round >= most {
-            return Ok(None);
-        }
         let tables = VisitTables {
             context,
             known: &known,
@@ -155,9 +162,18 @@ pub fn sizes_by_rounds(
         };
         let next = next_sizes(alloc, &tables, tree, first)?;
         if are_same(&next, &known) {
-            return Ok(Some(known));
+            return Ok(Some(SizeRounds {
+                known,
+                count: round,
+            }));
+        }
+        if round >= most {
+            return Ok(None);
         }
         known = next;
     }
-    Ok(Some(known))
+    Ok(Some(SizeRounds {
+        known,
+        count: tree.total_groups,
+    }))
 }

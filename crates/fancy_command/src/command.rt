@@ -11,13 +11,16 @@ use fancy_expr::error::Error;
 use fancy_notation::depth::depth;
 use fancy_notation::notation::read_tree;
 use fancy_search::search::search;
-use fancy_vm::vm::Scratch;
+use fancy_vm::vm::{Scratch, SearchLimits};
 use std::alloc::Global;
 use std::io::Write;
 
 /// How deep a tree may nest. What reads, compiles and frees a tree recurses over it, so a deeper one could pass the end
 /// of the native stack.
 pub const MOST_DEPTH: usize = 1_000;
+
+/// How many bytes a search may keep for easy parts: one that needs more is out of memory.
+const MOST_BYTES: usize = 1_073_741_824;
 
 /// What a command line asks.
 #[derive(Clone, Copy, Drop)]
@@ -56,6 +59,10 @@ impl Question<'_> {
         let tree = read_tree(alloc, self.tree)?;
         let options = self.arguments.options();
         let mut scratch = Scratch::new(alloc);
+        scratch.limit(SearchLimits {
+            visits: None,
+            bytes: Some(MOST_BYTES),
+        });
         search(alloc, &tree, self.text, &options, &mut scratch)
     }
 

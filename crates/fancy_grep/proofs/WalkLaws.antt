@@ -2,7 +2,7 @@
 use Rattle.std.proofs.Common.{◌≡◌, ℕ, suc, ◌+◌, ◌≤◌, ◌<◌, Bool, true, false, ◌&&◌, ◌||◌, ◌==◌, nat_le, List, [], ◌∷◌, ◌++◌, append_assoc, append-nil, Option, None, Some, IfSome, if◌then◌else◌, length, nat_lt, map, filter, cond, refl, sym, ap, ap₂, subst, ◌∙◌, arith}
 use Rattle.std.proofs.lemmas.Bool.{eq-eqb, eqb-true, eqb-false, lt-ltb, le-ltb, le-leb, lt-leb, ne_eqb, or_right, leb-true, leb-false, false≢true}
 use Rattle.std.proofs.lemmas.List.Folds.{list_any-append}
-use Rattle.fancy_grep.specs.Context.{AreRising, Stands, is_ahead, is_among, is_near, is_past, past, shown}
+use Rattle.fancy_grep.specs.Context.{AreRising, Stands, is_ahead, is_among, is_near, is_shown, is_past, past, shown}
 use Rattle.fancy_grep.specs.Lines.{Line}
 use Rattle.fancy_grep.specs.declared.context.Context.{Context}
 
@@ -130,31 +130,31 @@ comes all n last (s ∷ ss) h = comes_at all n s ss last (s == n) refl h
 
 -- ---- what is shown
 
-module _ (context : Context) (numbers : List ℕ) (l : Line) (ls : List Line) where
-  pub near_is_shown : is_near context numbers l.number ≡ true →
-      shown context numbers (l ∷ ls) ≡ (l, is_among numbers l.number) ∷ shown context numbers ls
+module _ (context : Context) (owed : ℕ) (numbers : List ℕ) (l : Line) (ls : List Line) where
+  pub near_is_shown : is_shown context owed numbers l.number ≡ true →
+      shown context owed numbers (l ∷ ls) ≡ (l, is_among numbers l.number) ∷ shown context owed numbers ls
   unfolding shown
   near_is_shown is =
-      ap (λ b. map (λ k. (k, is_among numbers k.number)) (cond b (l ∷ filter (λ k. is_near context numbers k.number) ls) (filter (λ k. is_near context numbers k.number) ls))) is
+      ap (λ b. map (λ k. (k, is_among numbers k.number)) (cond b (l ∷ filter (λ k. is_shown context owed numbers k.number) ls) (filter (λ k. is_shown context owed numbers k.number) ls))) is
 
-  pub far_is_left_out : is_near context numbers l.number ≡ false → shown context numbers (l ∷ ls) ≡ shown context numbers ls
+  pub far_is_left_out : is_shown context owed numbers l.number ≡ false → shown context owed numbers (l ∷ ls) ≡ shown context owed numbers ls
   unfolding shown
   far_is_left_out is =
-      ap (λ b. map (λ k. (k, is_among numbers k.number)) (cond b (l ∷ filter (λ k. is_near context numbers k.number) ls) (filter (λ k. is_near context numbers k.number) ls))) is
+      ap (λ b. map (λ k. (k, is_among numbers k.number)) (cond b (l ∷ filter (λ k. is_shown context owed numbers k.number) ls) (filter (λ k. is_shown context owed numbers k.number) ls))) is
 
-pub none_is_shown : (context : Context) (numbers : List ℕ) → shown context numbers [] ≡ []
+pub none_is_shown : (context : Context) (owed : ℕ) (numbers : List ℕ) → shown context owed numbers [] ≡ []
 unfolding shown
-none_is_shown context numbers = refl
+none_is_shown context owed numbers = refl
 
-module _ (context : Context) (numbers : List ℕ) (out : List (Line × Bool)) (l : Line) (ls : List Line) (all : List (Line × Bool)) where
-  pub one_more : (b : Bool) → is_near context numbers l.number ≡ true → b ≡ is_among numbers l.number →
-      out ++ shown context numbers (l ∷ ls) ≡ all → (out ++ ((l, b) ∷ [])) ++ shown context numbers ls ≡ all
+module _ (context : Context) (owed : ℕ) (numbers : List ℕ) (out : List (Line × Bool)) (l : Line) (ls : List Line) (all : List (Line × Bool)) where
+  pub one_more : (b : Bool) → is_shown context owed numbers l.number ≡ true → b ≡ is_among numbers l.number →
+      out ++ shown context owed numbers (l ∷ ls) ≡ all → (out ++ ((l, b) ∷ [])) ++ shown context owed numbers ls ≡ all
   one_more b near is h =
-      append_assoc out ((l, b) ∷ []) (shown context numbers ls)
-      ∙ ap (λ s. out ++ s) (ap (λ t. (l, t) ∷ shown context numbers ls) is ∙ sym (near_is_shown context numbers l ls near)) ∙ h
+      append_assoc out ((l, b) ∷ []) (shown context owed numbers ls)
+      ∙ ap (λ s. out ++ s) (ap (λ t. (l, t) ∷ shown context owed numbers ls) is ∙ sym (near_is_shown context owed numbers l ls near)) ∙ h
 
-  pub none_more : is_near context numbers l.number ≡ false → out ++ shown context numbers (l ∷ ls) ≡ all → out ++ shown context numbers ls ≡ all
-  none_more far h = ap (λ s. out ++ s) (sym (far_is_left_out context numbers l ls far)) ∙ h
+  pub none_more : is_shown context owed numbers l.number ≡ false → out ++ shown context owed numbers (l ∷ ls) ≡ all → out ++ shown context owed numbers ls ≡ all
+  none_more far h = ap (λ s. out ++ s) (sym (far_is_left_out context owed numbers l ls far)) ∙ h
 
-pub all_shown : (context : Context) (numbers : List ℕ) (out all : List (Line × Bool)) → out ++ shown context numbers [] ≡ all → out ≡ all
-all_shown context numbers out all h = sym (append-nil out) ∙ ap (λ s. out ++ s) (sym (none_is_shown context numbers)) ∙ h
+pub all_shown : (context : Context) (owed : ℕ) (numbers : List ℕ) (out all : List (Line × Bool)) → out ++ shown context owed numbers [] ≡ all → out ≡ all
+all_shown context owed numbers out all h = sym (append-nil out) ∙ ap (λ s. out ++ s) (sym (none_is_shown context owed numbers)) ∙ h

@@ -1,5 +1,5 @@
 -- The lines that are shown: those that are selected, and so many before and after each.
-use Rattle.std.specs.Prelude.{◌≡◌, ℕ, suc, ◌+◌, ◌≤◌, ◌<◌, Bool, false, ◌&&◌, ◌==◌, nat_le, if◌then◌else◌, List, [], ◌∷◌, ◌++◌, map, filter, Option, IfSome}
+use Rattle.std.specs.Prelude.{◌≡◌, ℕ, suc, ◌+◌, ◌≤◌, ◌<◌, Bool, false, ◌&&◌, ◌||◌, ◌==◌, nat_le, if◌then◌else◌, List, [], ◌∷◌, ◌++◌, map, filter, Option, IfSome}
 use Rattle.std.specs.Option.{option_map_or}
 use Rattle.std.specs.List.{list_any}
 use Rattle.fancy_grep.specs.Lines.{Line, line_of}
@@ -25,11 +25,15 @@ is_among numbers n = list_any (λ s. s == n) numbers
 abbrev pub is_near : Context → List ℕ → ℕ → Bool
 is_near context numbers n = list_any (λ s. nat_le s (n + context.before) && nat_le n (s + context.after)) numbers
 
--- Of the lines those that are near a selected one, in order, each with whether it is selected; these are the numbers of
--- the selected ones.
-unfoldable pub shown : Context → List ℕ → List Line → List (Line × Bool)
-shown context numbers lines =
-    map (λ l. (l, is_among numbers l.number)) (filter (λ l. is_near context numbers l.number) lines)
+-- the number is at most this, or near one of these
+abbrev pub is_shown : Context → ℕ → List ℕ → ℕ → Bool
+is_shown context owed numbers n = nat_le n owed || is_near context numbers n
+
+-- Of the lines those with a number up to the one that is owed, and those that are near a selected one, in order, each with
+-- whether it is selected; these are the numbers of the selected ones.
+unfoldable pub shown : Context → ℕ → List ℕ → List Line → List (Line × Bool)
+shown context owed numbers lines =
+    map (λ l. (l, is_among numbers l.number)) (filter (λ l. is_shown context owed numbers l.number) lines)
 
 abbrev pub shown_of : code.Shown → Line × Bool
 shown_of s = (line_of s.line, s.is_selected)

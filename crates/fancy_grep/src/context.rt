@@ -1,6 +1,6 @@
 //! The lines around those that are selected.
 
-ghost use Rattle.std.specs.Prelude.{◌≡◌, ◌||◌, ℕ, IfOk, List, map, suc};
+ghost use Rattle.std.specs.Prelude.{◌≡◌, ◌||◌, ℕ, IfOk, List, map, nat_le, suc};
 ghost use Rattle.fancy_grep.specs.Context.{AreRising, IsAt, is_ahead, is_among, is_past, numbers_of, past, shown, shown_of};
 ghost use Rattle.fancy_grep.specs.Lines.{lines_of};
 
@@ -46,11 +46,11 @@ impl<'s, 't> Walk<'s, 't> {
         is_selected
     }
 
-    /// Whether the line to which the walk has come is shown.
-    fn is_near(&self, number: usize, context: Context) -> bool
+    /// Whether the line to which the walk has come is shown; the first `owed` lines are.
+    fn is_shown(&self, number: usize, context: Context, owed: usize) -> bool
         ensures { result
-            ≡ (is_past context number self.now.last
-            || is_ahead context number (numbers_of self.now.left.now)) }
+            ≡ (nat_le number owed || (is_past context number self.now.last
+            || is_ahead context number (numbers_of self.now.left.now))) }
     {
         let is_past = match self.last {
             Some(last) => number.saturating_sub(last) <= context.after,
@@ -60,7 +60,7 @@ impl<'s, 't> Walk<'s, 't> {
             Some(next) => next.number.saturating_sub(number) <= context.before,
             None => false,
         };
-        is_past || is_ahead
+        number <= owed || is_past || is_ahead
     }
 }
 
@@ -76,17 +76,18 @@ fn past<'s, 't>(lines: &'s [Line<'t>], number: usize) -> &'s [Line<'t>]
     lines
 }
 
-/// The selected lines of a text with the lines around them, in order; each line of the text stands there once at most.
-/// The only error is want of memory.
+/// The selected lines of a text with the lines around them, and its first `owed` lines, in order; each line once at most.
+/// The only error is out of memory.
 pub fn with_context<'t>(
     alloc: Global,
     text: &'t str,
     selected: &[Line<'t>],
     context: Context,
+    owed: usize,
 ) -> Result<Vec<Shown<'t>>, AllocError>
     requires { AreRising 1 (numbers_of selected.now) }
     ensures { IfOk result (λ lines. map shown_of lines.items
-        ≡ shown context (numbers_of selected.now) (lines_of text.now)) }
+        ≡ shown context owed (numbers_of selected.now) (lines_of text.now)) }
 {
     let mut lines = Vec::new(alloc);
     let mut walk = Walk {
@@ -95,7 +96,7 @@ pub fn with_context<'t>(
     };
     for line in Lines::new(text) {
         let is_selected = walk.come_to(line.number);
-        if walk.is_near(line.number, context) {
+        if walk.is_shown(line.number, context, owed) {
             lines.push(Shown { line, is_selected })?;
         }
     }

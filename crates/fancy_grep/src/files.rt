@@ -1,30 +1,40 @@
 //! A search of files, folders and standard input.
 
+use crate::excerpt::push_excerpt;
 use crate::matching::Failure;
+use crate::output::Output;
 use crate::patterns::{Matcher, PatternOptions, matcher_of};
-use crate::reports::{Source, report};
-use crate::settings::Settings;
+use crate::reports::{Part, Search};
+use crate::settings::{Report, Settings};
+use fancy_input::blocks::{BlockError, Blocks};
+use fancy_input::marks::TextReader;
+use fancy_input::pieces::{Piece, read_as, split_piece};
 use fancy_regex::Error;
 use memchr::memchr;
 use std::alloc::AllocError;
-use std::io::{ErrorKind, Read, Write};
-use std::{fs, io, str};
+use std::fs::{DirEntry, File};
+use std::io::{ErrorKind, Read};
+use std::{fs, io};
 
-/// What a search of files has come to.
-#[derive(Clone, Copy)]
-struct Progress {
+/// How many bytes a read of a file asks for.
+const BLOCK: usize = 131_072;
+
+/// A search of files.
+#[derive(Drop)]
+struct Run<'r> {
+    rt: &'r HostRuntime,
+    matcher: Matcher,
+    out: Output,
     /// A line was selected.
     is_selected: bool,
     /// Something could not be read, searched or written.
     has_failed: bool,
-    /// Standard output takes nothing more.
-    is_closed: bool,
 }
 
-impl Progress {
+impl<'r> Run<'r> {
     /// The status of the program, as of grep.
-    fn status(self) -> u8 {
-        if self.has_failed {
+    fn status(&self) -> u8 {
+        if self.has_failed || self.out.error().is_some() {
             2
         } else if self.is_selected {
             0
@@ -33,90 +43,257 @@ impl Progress {
         }
     }
 
-    /// Says on standard error that something failed, and notes it.
-    fn fail(&mut self, rt: &HostRuntime, what: &str, error: &io::Error) {
-        self.has_failed = true;
-        let _unwritten = eprintln!(rt; "fancygrep: {what}: {error}");
+    /// Whether nothing more can be written.
+    fn is_closed(&self) -> bool {
+        self.out.error().is_some()
     }
 
-    /// The same of a search: its line, unless only memory was wanted.
-    fn fail_search(&mut self, rt: &HostRuntime, name: &str, failure: &Failure) {
+    /// Writes what is kept, and returns the status. A closed pipe is not reported.
+    fn end(&mut self) -> u8 {
+        self.out.flush();
+        if let Some(error) = self.out.error() {
+            if error.kind() != ErrorKind::BrokenPipe {
+                let _unwritten = eprintln!(self.rt; "fancygrep: write error: {error}");
+            }
+        }
+        self.status()
+    }
+
+    /// Reports on standard error that something failed.
+    fn fail(&mut self, what: &str, error: &io::Error) {
         self.has_failed = true;
+        self.out.flush();
+        let _unwritten = eprintln!(self.rt; "fancygrep: {what}: {error}");
+    }
+
+    /// The same of a search, with its line, if it is known.
+    fn fail_search(&mut self, name: &str, failure: &Failure) {
+        self.has_failed = true;
+        self.out.flush();
         let number = failure.number;
         let error = &failure.error;
-        let _unwritten = match error {
-            Error::Memory => eprintln!(rt; "fancygrep: {name}: {error}"),
-            _ => eprintln!(rt; "fancygrep: {name}: line {number}: {error}"),
+        let _unwritten = if number == 0 {
+            eprintln!(self.rt; "fancygrep: {name}: {error}")
+        } else {
+            eprintln!(self.rt; "fancygrep: {name}: line {number}: {error}")
         };
     }
 
-    /// The same of bytes that are no text in UTF-8.
-    fn fail_text(&mut self, rt: &HostRuntime, name: &str) {
+    /// The same of a line that does not fit the memory.
+    fn fail_line(&mut self, name: &str, number: usize) {
         self.has_failed = true;
-        let _unwritten = eprintln!(rt; "fancygrep: {name}: not a text in UTF-8");
+        self.out.flush();
+        let _unwritten = eprintln!(self.rt;
+            "fancygrep: {name}: line {number}: out of memory, the line is too long"
+        );
     }
 
-    /// Writes a text. Nothing is said of a pipe that is closed.
-    fn write(&mut self, rt: &HostRuntime, text: &str) {
-        if let Err(error) = rt.stdout().write_all(text.as_bytes()) {
-            self.is_closed = true;
-            self.has_failed = true;
-            if error.kind() != ErrorKind::BrokenPipe {
-                self.fail(rt, "write error", &error);
+    /// Searches lines of a file, and returns whether the search goes on: after each error but out of memory it does not.
+    fn search_part(&mut self, search: &mut Search<'_>, name: &str, part: Part<'_>) -> bool {
+        let mut left = part;
+        for _ in 0..u64::MAX {
+            match search.search(&mut self.out, &mut self.matcher, left) {
+                None => return true,
+                Some((failure, rest)) => {
+                    self.fail_search(name, &failure);
+                    if !matches!(failure.error, Error::Memory) {
+                        return false;
+                    }
+                    left = rest;
+                }
+            }
+        }
+        false
+    }
+
+    /// Searches a line that is not all UTF-8. Its line end is no part of what it reads as.
+    fn search_broken(&mut self, search: &mut Search<'_>, name: &str, line: &[u8]) -> bool {
+        let bytes = line.strip_suffix(b"\n").unwrap_or(line);
+        match read_as(self.rt.alloc(), bytes) {
+            Ok(text) => {
+                let part = Part {
+                    text: text.as_str(),
+                    bytes: line,
+                    is_broken: true,
+                };
+                self.search_part(search, name, part)
+            }
+            Err(_) => {
+                self.fail_line(name, search.next_number());
+                search.skip_line();
+                true
             }
         }
     }
-}
 
-/// Searches a text, and writes what is asked for of it.
-fn search_text(
-    rt: &HostRuntime,
-    progress: &mut Progress,
-    matcher: &mut Matcher,
-    settings: &Settings<'_>,
-    name: &str,
-    text: &str,
-) {
-    let mut out = String::new(rt.alloc());
-    let source = Source {
-        name,
-        text,
-        is_first: !progress.is_selected,
-    };
-    let outcome = report(rt.alloc(), &mut out, matcher, settings, source);
-    progress.is_selected = progress.is_selected || outcome.is_selected;
-    progress.write(rt, out.as_str());
-    if let Some(failure) = &outcome.failure {
-        progress.fail_search(rt, name, failure);
+    /// Searches a block of a file, and returns whether the search goes on.
+    fn search_block(&mut self, search: &mut Search<'_>, name: &str, block: &[u8]) -> bool {
+        search.is_binary = search.is_binary || memchr(0, block).is_some();
+        let mut left = block;
+        for _ in 0..block.len() {
+            if left.is_empty() {
+                break;
+            }
+            let (piece, rest) = split_piece(left);
+            let goes_on = match piece {
+                Piece::Text(text) => self.search_part(search, name, Part::of_text(text)),
+                Piece::Broken(line) => self.search_broken(search, name, line),
+            };
+            if !goes_on || search.is_done() || self.is_closed() {
+                return false;
+            }
+            left = rest;
+        }
+        true
     }
-}
 
-/// Searches the bytes of a file. In a folder binary files, which have a zero byte, are left out.
-fn search_bytes(
-    rt: &HostRuntime,
-    progress: &mut Progress,
-    matcher: &mut Matcher,
-    settings: &Settings<'_>,
-    name: &str,
-    bytes: &[u8],
-) {
-    if settings.is_recursive && memchr(0, bytes).is_some() {
-        return;
+    /// Searches a source block by block. What is kept is written before a read that may wait.
+    fn search_blocks<R: Read>(
+        &mut self,
+        search: &mut Search<'_>,
+        name: &str,
+        blocks: &mut Blocks<R>,
+    ) {
+        for _ in 0..u64::MAX {
+            let goes_on = match blocks.advance() {
+                Ok(true) => self.search_block(search, name, blocks.block()),
+                Ok(false) => false,
+                Err(BlockError::Io(error)) => {
+                    self.fail(name, &error);
+                    false
+                }
+                Err(BlockError::LineTooLong) => {
+                    self.fail_line(name, search.next_number());
+                    search.skip_line();
+                    blocks.skip_line().is_ok()
+                }
+            };
+            if !goes_on {
+                break;
+            }
+            if blocks.is_short() {
+                self.out.flush();
+            }
+        }
     }
-    match str::from_utf8(bytes) {
-        Ok(text) => search_text(rt, progress, matcher, settings, name, text),
-        Err(_) => progress.fail_text(rt, name),
-    }
-}
 
-/// The bytes of a file, or of standard input where its path is `-`.
-fn read(rt: &HostRuntime, path: &str) -> io::Result<Vec<u8>> {
-    if path != "-" {
-        return fs::read(rt, path);
+    /// Searches a source, and writes what is asked for of it.
+    fn search_source<R: Read + Drop>(
+        &mut self,
+        settings: &Settings<'_>,
+        name: &str,
+        reader: R,
+    ) -> Result<(), AllocError> {
+        let alloc = self.rt.alloc();
+        let mut search = Search::new(alloc, *settings, name, !self.is_selected);
+        let mut blocks = Blocks::new(alloc, TextReader::new(alloc, reader), BLOCK)?;
+        self.search_blocks(&mut search, name, &mut blocks);
+        self.is_selected = self.is_selected || search.is_selected();
+        search.finish(&mut self.out)?;
+        if search.is_untold && matches!(settings.report, Report::Lines | Report::Matches) {
+            self.out.flush();
+            let _unwritten = eprintln!(self.rt; "fancygrep: {name}: binary file matches");
+        }
+        Ok(())
     }
-    let mut bytes = Vec::new(rt.alloc());
-    rt.stdin().read_to_end(&mut bytes)?;
-    Ok(bytes)
+
+    /// Searches a file, or standard input if its path is `-`.
+    fn search_file(&mut self, settings: &Settings<'_>, path: &str) -> Result<(), AllocError> {
+        if path == "-" {
+            return self.search_source(settings, name_of(path), self.rt.stdin());
+        }
+        match File::open(self.rt, path) {
+            Ok(file) => self.search_source(settings, path, file),
+            Err(error) => {
+                self.fail(path, &error);
+                Ok(())
+            }
+        }
+    }
+
+    /// The paths of a folder's entries in order, without the hidden ones. That of a folder ends in `/`. An entry that cannot
+    /// be read is reported, and the others are there.
+    fn entries(&mut self, folder: &str) -> io::Result<Vec<String>> {
+        let mut paths = Vec::new(self.rt.alloc());
+        for entry in fs::read_dir(self.rt, folder)? {
+            match entry {
+                Ok(entry) => self.add_entry(&mut paths, &entry)?,
+                Err(error) => self.fail(folder, &error),
+            }
+        }
+        paths.sort()?;
+        Ok(paths)
+    }
+
+    fn add_entry(&mut self, paths: &mut Vec<String>, entry: &DirEntry) -> Result<(), AllocError> {
+        if entry.file_name().starts_with('.') {
+            return Ok(());
+        }
+        let path = entry.path();
+        let path = path.as_str().strip_prefix("./").unwrap_or(path.as_str());
+        match entry.file_type() {
+            Ok(kind) if kind.is_dir() => paths.push(format!(in self.rt.alloc(); "{path}/")?)?,
+            Ok(kind) if kind.is_file() => paths.push(String::from_str(self.rt.alloc(), path)?)?,
+            Ok(_) => {}
+            Err(error) => self.fail(path, &error),
+        }
+        Ok(())
+    }
+
+    /// Searches a file, or adds a folder's entries to what is left, the first one last.
+    fn search_entry(
+        &mut self,
+        settings: &Settings<'_>,
+        path: &str,
+        left: &mut Vec<String>,
+    ) -> Result<(), AllocError> {
+        if !path.ends_with('/') {
+            return self.search_file(settings, path);
+        }
+        match self.entries(path) {
+            Ok(mut paths) => {
+                while let Some(path) = paths.pop() {
+                    left.push(path)?;
+                }
+            }
+            Err(error) => self.fail(path, &error),
+        }
+        Ok(())
+    }
+
+    /// Searches the files in a folder and in those below it, with their names.
+    fn search_folder(&mut self, settings: &Settings<'_>, folder: &str) -> Result<(), AllocError> {
+        let settings = Settings {
+            has_names: true,
+            ..*settings
+        };
+        let mut left = Vec::new(self.rt.alloc());
+        left.push(format!(in self.rt.alloc(); "{folder}/")?)?;
+        for _ in 0..u64::MAX {
+            match left.pop() {
+                Some(path) if !self.is_closed() => {
+                    self.search_entry(&settings, path.as_str(), &mut left)?;
+                }
+                _ => break,
+            }
+        }
+        Ok(())
+    }
+
+    /// Searches each file, and each folder if that is asked for.
+    fn search_paths(&mut self, settings: &Settings<'_>, paths: &[&str]) -> Result<(), AllocError> {
+        for path in paths {
+            if self.is_closed() {
+                break;
+            }
+            if settings.is_recursive && *path != "-" && is_folder(self.rt, path) {
+                self.search_folder(settings, path)?;
+            } else {
+                self.search_file(settings, path)?;
+            }
+        }
+        Ok(())
+    }
 }
 
 /// What a file is called, by its path.
@@ -127,90 +304,6 @@ fn name_of(path: &str) -> &str {
     path
 }
 
-/// Searches a file, or standard input where its path is `-`.
-fn search_file(
-    rt: &HostRuntime,
-    progress: &mut Progress,
-    matcher: &mut Matcher,
-    settings: &Settings<'_>,
-    path: &str,
-) {
-    match read(rt, path) {
-        Ok(bytes) => search_bytes(rt, progress, matcher, settings, name_of(path), &bytes),
-        Err(error) => progress.fail(rt, name_of(path), &error),
-    }
-}
-
-/// The paths of a folder's entries in order, without the hidden ones. That of a folder ends in `/`.
-fn entries(rt: &HostRuntime, folder: &str) -> io::Result<Vec<String>> {
-    let mut paths = Vec::new(rt.alloc());
-    for entry in fs::read_dir(rt, folder)? {
-        let entry = entry?;
-        if entry.file_name().starts_with('.') {
-            continue;
-        }
-        let kind = entry.file_type()?;
-        let path = entry.path();
-        let path = path.as_str().strip_prefix("./").unwrap_or(path.as_str());
-        if kind.is_dir() {
-            paths.push(format!(in rt.alloc(); "{path}/")?)?;
-        } else if kind.is_file() {
-            paths.push(String::from_str(rt.alloc(), path)?)?;
-        }
-    }
-    paths.sort()?;
-    Ok(paths)
-}
-
-/// Searches a file, or adds a folder's entries to what is left, the first one last.
-fn search_entry(
-    rt: &HostRuntime,
-    progress: &mut Progress,
-    matcher: &mut Matcher,
-    settings: &Settings<'_>,
-    path: &str,
-    left: &mut Vec<String>,
-) -> Result<(), AllocError> {
-    if !path.ends_with('/') {
-        search_file(rt, progress, matcher, settings, path);
-        return Ok(());
-    }
-    match entries(rt, path) {
-        Ok(mut paths) => {
-            while let Some(path) = paths.pop() {
-                left.push(path)?;
-            }
-        }
-        Err(error) => progress.fail(rt, path, &error),
-    }
-    Ok(())
-}
-
-/// Searches the files in a folder and in those below it, and tells their names.
-fn search_folder(
-    rt: &HostRuntime,
-    progress: &mut Progress,
-    matcher: &mut Matcher,
-    settings: &Settings<'_>,
-    folder: &str,
-) -> Result<(), AllocError> {
-    let settings = Settings {
-        has_names: true,
-        ..*settings
-    };
-    let mut left = Vec::new(rt.alloc());
-    left.push(format!(in rt.alloc(); "{folder}/")?)?;
-    for _ in 0..u64::MAX {
-        match left.pop() {
-            Some(path) if !progress.is_closed => {
-                search_entry(rt, progress, matcher, &settings, path.as_str(), &mut left)?;
-            }
-            _ => break,
-        }
-    }
-    Ok(())
-}
-
 /// Whether the path names a folder.
 fn is_folder(rt: &HostRuntime, path: &str) -> bool {
     match fs::metadata(rt, path) {
@@ -219,55 +312,68 @@ fn is_folder(rt: &HostRuntime, path: &str) -> bool {
     }
 }
 
-/// Searches each file, and each folder where that is asked for.
-fn search_paths(
-    rt: &HostRuntime,
-    progress: &mut Progress,
-    matcher: &mut Matcher,
-    settings: &Settings<'_>,
-    paths: &[&str],
-) -> Result<(), AllocError> {
-    for path in paths {
-        if progress.is_closed {
-            break;
-        }
-        if settings.is_recursive && *path != "-" && is_folder(rt, path) {
-            search_folder(rt, progress, matcher, settings, path)?;
-        } else {
-            search_file(rt, progress, matcher, settings, path);
-        }
-    }
-    Ok(())
-}
-
-/// Says on standard error why there is no regex of the pattern. A place is told in bytes of the pattern as it was given.
-fn refuse(rt: &HostRuntime, pattern: &str, options: PatternOptions, error: Error) -> u8 {
-    let error = match error {
+/// The error of a pattern that was searched for with what is put around it, and the place of the fault in the pattern as it
+/// was given.
+fn placed(pattern: &str, options: PatternOptions, error: Error) -> (Error, Option<usize>) {
+    match error {
         Error::ParseError(at, kind) => {
             let (before, _) = options.extent.around();
-            Error::ParseError(at.saturating_sub(before.len()).min(pattern.len()), kind)
+            let at = at.saturating_sub(before.len()).min(pattern.len());
+            (Error::ParseError(at, kind), Some(at))
         }
-        error => error,
-    };
-    let _unwritten = eprintln!(rt; "fancygrep: the pattern is refused: {error}");
-    2
+        error => (error, None),
+    }
 }
 
-/// Searches files, and answers the status of the program: 0 where a line is selected, 1 where none is, and 2 where
-/// something failed, which is told on standard error.
-pub fn search(rt: &HostRuntime, pattern: &str, settings: &Settings<'_>, paths: &[&str]) -> u8 {
-    let mut matcher = match matcher_of(rt.alloc(), pattern, settings.pattern) {
+/// Reports on standard error why there is no regex of the pattern. The place of a fault is in bytes of the pattern as it was
+/// given, and shown below it.
+fn refuse(
+    rt: &HostRuntime,
+    pattern: &str,
+    options: PatternOptions,
+    error: Error,
+) -> Result<u8, AllocError> {
+    let (error, place) = placed(pattern, options, error);
+    let mut text = format!(in rt.alloc(); "fancygrep: the pattern is refused: {error}")?;
+    if let Some(at) = place {
+        push_excerpt(&mut text, pattern, at)?;
+    }
+    let _unwritten = eprintln!(rt; "{text}");
+    Ok(2)
+}
+
+/// Searches files, and returns the status, or an error if there is no memory for the program itself.
+fn search_all(
+    rt: &HostRuntime,
+    pattern: &str,
+    settings: &Settings<'_>,
+    paths: &[&str],
+) -> Result<u8, AllocError> {
+    let matcher = match matcher_of(rt.alloc(), pattern, settings.pattern) {
         Ok(matcher) => matcher,
         Err(error) => return refuse(rt, pattern, settings.pattern, error),
     };
-    let mut progress = Progress {
+    let mut run = Run {
+        rt,
+        matcher,
+        out: Output::new(rt.alloc(), rt.stdout()),
         is_selected: false,
         has_failed: false,
-        is_closed: false,
     };
-    if search_paths(rt, &mut progress, &mut matcher, settings, paths).is_err() {
-        let _unwritten = eprintln!(rt; "fancygrep: memory ran out");
-        return 2;
+    let searched = run.search_paths(settings, paths);
+    let status = run.end();
+    searched?;
+    Ok(status)
+}
+
+/// Searches files, and returns the status of the program: 0 if a line is selected, 1 if none is, and 2 if something failed,
+/// which standard error reports.
+pub fn search(rt: &HostRuntime, pattern: &str, settings: &Settings<'_>, paths: &[&str]) -> u8 {
+    match search_all(rt, pattern, settings, paths) {
+        Ok(status) => status,
+        Err(_) => {
+            let _unwritten = eprintln!(rt; "fancygrep: out of memory");
+            2
+        }
     }
-    progress.status()
 }

@@ -1,11 +1,11 @@
 //! From a pattern with its options to a regex.
 
-ghost use Rattle.std.specs.Prelude.{◌≡◌, IfOk, MatchResult, string_bytes};
+ghost use Rattle.std.specs.Prelude.{◌≡◌, IfOk, MatchResult, option_or, string_bytes, unwrap_or};
 ghost use Rattle.fancy_expr.specs.declared.expr.ExprTree.{ExprTree};
-ghost use Rattle.fancy_regex.specs.Builders.{IsBuilt, IsRefused, IsTreeOf};
+ghost use Rattle.fancy_regex.specs.Builders.{IsBuilt, IsRefused, IsTreeOf, options as options_in, with_options};
 ghost use Rattle.fancy_grep.specs.Matchers.{IsMatcherOf, IsRequiredIn};
 ghost use Rattle.fancy_grep.specs.Patterns.{asked, wrapped};
-ghost use Rattle.fancy_grep.specs.RegexOptions.{options_for};
+ghost use Rattle.fancy_grep.specs.RegexOptions.{limited, options_for};
 
 use fancy_literals::required::{Required, required_by};
 use fancy_pattern::error::PatternError;
@@ -14,17 +14,24 @@ use fancy_pattern::pattern::parse_tree;
 use fancy_regex::{Error, Regex, RegexBuilder, escape};
 use std::alloc::{AllocError, Global};
 
-/// How many instructions its program may have.
+/// How many instructions its program may have, unless said otherwise.
 const MOST_INSTRUCTIONS: usize = 1_000_000;
 
 /// How many nodes of the pattern may stand in one another, calls with them.
 const MOST_NESTING: usize = 4_000;
 
-/// How many states of plain parts of the pattern a search of a line may visit, unless said otherwise.
-pub const MOST_VISITS: usize = 100_000_000;
-
-/// How many bytes it may keep for them at one time, unless said otherwise.
-pub const MOST_MEMORY: usize = 268_435_456;
+/// What a pattern and a search of a line may take, if it is not what `fancy_regex` allows.
+#[derive(Clone, Copy)]
+pub struct Limits {
+    pub backtracks: Option<usize>,
+    pub steps: Option<u64>,
+    pub visits: Option<usize>,
+    /// In bytes.
+    pub memory: Option<usize>,
+    /// In instructions.
+    pub max_prog: Option<usize>,
+    pub analysis: Option<usize>,
+}
 
 /// What of a line a match may be.
 #[derive(Clone, Copy)]
@@ -46,10 +53,7 @@ pub struct PatternOptions {
     /// The longest match at the earliest start is found, and not the first.
     pub longest: bool,
     pub extent: Extent,
-    /// How many states of plain parts of the pattern a search of a line may visit.
-    pub visit_limit: usize,
-    /// How many bytes it may keep for them at one time.
-    pub memory_limit: usize,
+    pub limits: Limits,
 }
 
 impl PatternOptions {
@@ -134,14 +138,80 @@ fn regex_of(alloc: Global, pattern: &str, options: PatternOptions) -> Result<Reg
         (IsBuilt pattern.now (options_for options))
         (IsRefused pattern.now (options_for options)) }
 {
-    RegexBuilder::new(pattern)
+    let builder = RegexBuilder::new(pattern)
         .case_insensitive(options.case_insensitive)
         .leftmost_longest(options.longest)
-        .max_prog_size(Some(MOST_INSTRUCTIONS))
-        .max_nesting(Some(MOST_NESTING))
-        .visit_limit(Some(options.visit_limit))
-        .memory_limit(Some(options.memory_limit))
-        .build(alloc)
+        .max_prog_size(Some(options.limits.max_prog.unwrap_or(MOST_INSTRUCTIONS)))
+        .max_nesting(Some(MOST_NESTING));
+    options.limits.set(builder).build(alloc)
+}
+
+impl Limits {
+    /// Sets the limits of a regex that are given.
+    fn set<'p>(self, builder: RegexBuilder<'p>) -> RegexBuilder<'p>
+        ensures { result ≡ with_options builder.entry (limited self (options_in builder.entry)) }
+    {
+        let builder = with_backtracks(builder, self.backtracks);
+        let builder = with_steps(builder, self.steps);
+        let builder = with_visits(builder, self.visits);
+        let builder = with_memory(builder, self.memory);
+        with_analysis(builder, self.analysis)
+    }
+}
+
+fn with_backtracks<'p>(builder: RegexBuilder<'p>, limit: Option<usize>) -> RegexBuilder<'p>
+    ensures { result ≡ with_options builder.entry (record (options_in builder.entry) {
+      backtrack_limit = option_or limit (options_in builder.entry).backtrack_limit;
+    }) }
+{
+    match limit {
+        Some(limit) => builder.backtrack_limit(limit),
+        None => builder,
+    }
+}
+
+fn with_steps<'p>(builder: RegexBuilder<'p>, limit: Option<u64>) -> RegexBuilder<'p>
+    ensures { result ≡ with_options builder.entry (record (options_in builder.entry) {
+      step_limit = unwrap_or limit (options_in builder.entry).step_limit;
+    }) }
+{
+    match limit {
+        Some(limit) => builder.step_limit(limit),
+        None => builder,
+    }
+}
+
+fn with_visits<'p>(builder: RegexBuilder<'p>, limit: Option<usize>) -> RegexBuilder<'p>
+    ensures { result ≡ with_options builder.entry (record (options_in builder.entry) {
+      visit_limit = option_or limit (options_in builder.entry).visit_limit;
+    }) }
+{
+    match limit {
+        Some(_) => builder.visit_limit(limit),
+        None => builder,
+    }
+}
+
+fn with_memory<'p>(builder: RegexBuilder<'p>, limit: Option<usize>) -> RegexBuilder<'p>
+    ensures { result ≡ with_options builder.entry (record (options_in builder.entry) {
+      memory_limit = option_or limit (options_in builder.entry).memory_limit;
+    }) }
+{
+    match limit {
+        Some(_) => builder.memory_limit(limit),
+        None => builder,
+    }
+}
+
+fn with_analysis<'p>(builder: RegexBuilder<'p>, limit: Option<usize>) -> RegexBuilder<'p>
+    ensures { result ≡ with_options builder.entry (record (options_in builder.entry) {
+      analysis_limit = option_or limit (options_in builder.entry).analysis_limit;
+    }) }
+{
+    match limit {
+        Some(_) => builder.analysis_limit(limit),
+        None => builder,
+    }
 }
 
 /// What each match of the pattern takes, if that is known.

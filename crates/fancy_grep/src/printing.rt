@@ -1,6 +1,6 @@
 //! What is written of a line.
 
-ghost use Rattle.std.specs.Prelude.{◌≡◌, ◌++◌, OnOk, string_bytes};
+ghost use Rattle.std.specs.Prelude.{◌≡◌, ◌++◌, OnOk};
 ghost use Rattle.fancy_grep.specs.Printing.{in_colour, name_part, number_part, painted, prefix};
 
 use std::alloc::AllocError;
@@ -25,43 +25,43 @@ pub const NUMBER: &str = "32";
 pub const SEPARATOR: &str = "36";
 
 /// Writes a text in a colour of the terminal.
-fn push_in_colour(out: &mut String, colour: &str, text: &str) -> Result<(), AllocError>
-    ensures { OnOk result (string_bytes out.new
-        ≡ string_bytes out.old ++ in_colour colour.now text.now) }
+fn push_in_colour(out: &mut Vec<u8>, colour: &str, text: &[u8]) -> Result<(), AllocError>
+    ensures { OnOk result (out.new.items
+        ≡ out.old.items ++ in_colour colour.now text.now) }
 {
-    out.push_str("\u{1b}[")?;
-    out.push_str(colour)?;
-    out.push_str("m\u{1b}[K")?;
-    out.push_str(text)?;
-    out.push_str("\u{1b}[m\u{1b}[K")
+    out.extend_from_slice(b"\x1b[")?;
+    out.extend_from_slice(colour.as_bytes())?;
+    out.extend_from_slice(b"m\x1b[K")?;
+    out.extend_from_slice(text)?;
+    out.extend_from_slice(b"\x1b[m\x1b[K")
 }
 
 /// Writes a text, in a colour of the terminal where that is asked for.
 pub fn push_painted(
-    out: &mut String,
+    out: &mut Vec<u8>,
     has_colours: bool,
     colour: &str,
-    text: &str,
+    text: &[u8],
 ) -> Result<(), AllocError>
-    ensures { OnOk result (string_bytes out.new
-        ≡ string_bytes out.old ++ painted has_colours colour.now text.now) }
+    ensures { OnOk result (out.new.items
+        ≡ out.old.items ++ painted has_colours colour.now text.now) }
 {
     if has_colours {
         push_in_colour(out, colour, text)
     } else {
-        out.push_str(text)
+        out.extend_from_slice(text)
     }
 }
 
 /// Writes the name of a line's text and what separates it from the rest, where lines begin with it.
-pub fn push_name(out: &mut String, style: Style<'_>, separator: &str) -> Result<(), AllocError>
-    ensures { OnOk result (string_bytes out.new ≡ string_bytes out.old
+pub fn push_name(out: &mut Vec<u8>, style: Style<'_>, separator: &str) -> Result<(), AllocError>
+    ensures { OnOk result (out.new.items ≡ out.old.items
         ++ name_part style.entry.has_colours style.entry.name separator.now) }
 {
     match style.name {
         Some(name) => {
-            push_painted(out, style.has_colours, NAME, name)?;
-            push_painted(out, style.has_colours, SEPARATOR, separator)
+            push_painted(out, style.has_colours, NAME, name.as_bytes())?;
+            push_painted(out, style.has_colours, SEPARATOR, separator.as_bytes())
         }
         None => Ok(()),
     }
@@ -69,31 +69,31 @@ pub fn push_name(out: &mut String, style: Style<'_>, separator: &str) -> Result<
 
 /// Writes the number of a line and what separates it from the rest, where lines begin with it.
 fn push_number(
-    out: &mut String,
+    out: &mut Vec<u8>,
     style: Style<'_>,
     number: usize,
     separator: &str,
 ) -> Result<(), AllocError>
-    ensures { OnOk result (string_bytes out.new
-        ≡ string_bytes out.old ++ number_part style.entry number separator.now) }
+    ensures { OnOk result (out.new.items
+        ≡ out.old.items ++ number_part style.entry number separator.now) }
 {
     if !style.has_numbers {
         return Ok(());
     }
     let digits = number.to_string(*out.allocator())?;
-    push_painted(out, style.has_colours, NUMBER, digits.as_str())?;
-    push_painted(out, style.has_colours, SEPARATOR, separator)
+    push_painted(out, style.has_colours, NUMBER, digits.as_bytes())?;
+    push_painted(out, style.has_colours, SEPARATOR, separator.as_bytes())
 }
 
 /// Writes what stands before a line.
 pub fn push_prefix(
-    out: &mut String,
+    out: &mut Vec<u8>,
     style: Style<'_>,
     number: usize,
     separator: &str,
 ) -> Result<(), AllocError>
-    ensures { OnOk result (string_bytes out.new
-        ≡ string_bytes out.old ++ prefix style.entry number separator.now) }
+    ensures { OnOk result (out.new.items
+        ≡ out.old.items ++ prefix style.entry number separator.now) }
 {
     push_name(out, style, separator)?;
     push_number(out, style, number, separator)

@@ -1,193 +1,310 @@
-//! What is written of a text.
+//! What is written of a file.
 
 ghost use Rattle.fancy_grep.specs.Context.{AreRising, numbers_of};
 
-use crate::context::{Shown, with_context};
+use crate::around::{Around, skip_lines};
+use crate::context::{Context, Shown, with_context};
 use crate::lines::Line;
 use crate::matching::{Failure, MatchingLines, matching_lines};
+use crate::output::Output;
 use crate::patterns::Matcher;
 use crate::printing::{MATCH, NAME, SEPARATOR, Style, push_name, push_painted, push_prefix};
 use crate::settings::{Report, Settings};
-use fancy_regex::{Error, Match, Regex};
+use fancy_input::pieces::bytes_read_as;
+use fancy_regex::{Error, Regex};
+use memchr::{memchr, memchr_iter};
 use std::alloc::{AllocError, Global};
 
-/// What a search of a text came to.
-#[derive(Drop)]
-pub struct Outcome {
-    /// A line is selected.
-    pub is_selected: bool,
-    /// The error that ended the search.
-    pub failure: Option<Failure>,
-}
-
-/// A text that is searched.
+/// Lines of a file that are searched together.
 #[derive(Clone, Copy)]
-pub struct Source<'a> {
-    pub name: &'a str,
-    pub text: &'a str,
-    /// No line of a text before it was selected.
-    pub is_first: bool,
+pub struct Part<'t> {
+    /// What they read as.
+    pub text: &'t str,
+    /// What is in the file, with the line ends.
+    pub bytes: &'t [u8],
+    /// They are one line, and its text is not what is in the file.
+    pub is_broken: bool,
 }
 
-/// Writes the line, its matches in a colour.
-fn push_coloured(out: &mut String, regex: &mut Regex, line: &str) -> Result<(), Error> {
-    let mut passed = 0usize;
-    for found in regex.find_iter(line) {
-        let found = found?;
-        out.push_str(line.get(passed..found.start()).unwrap_or(""))?;
-        push_match(out, found)?;
-        passed = found.end();
+impl<'t> Part<'t> {
+    /// What is in the file of one of these lines, without its line end.
+    fn bytes_of(self, line: Line<'t>) -> &'t [u8] {
+        if !self.is_broken {
+            return line.text.as_bytes();
+        }
+        match self.bytes.strip_suffix(b"\n") {
+            Some(bytes) => bytes,
+            None => self.bytes,
+        }
     }
-    out.push_str(line.get(passed..).unwrap_or(""))?;
-    Ok(())
-}
 
-fn push_match(out: &mut String, found: Match<'_>) -> Result<(), AllocError> {
-    if found.is_empty() {
-        return Ok(());
+    /// How many lines these are.
+    fn count(self) -> usize {
+        let ends = memchr_iter(b'\n', self.bytes).count();
+        match self.bytes.last() {
+            None | Some(b'\n') => ends,
+            Some(_) => ends.saturating_add(1),
+        }
     }
-    push_painted(out, true, MATCH, found.as_str())
-}
 
-/// Writes the line, its matches replaced.
-fn push_replaced(
-    out: &mut String,
-    regex: &mut Regex,
-    line: &str,
-    template: &str,
-) -> Result<(), Error> {
-    let replaced = regex.replace_all(line, template)?;
-    out.push_str(replaced.as_str())?;
-    Ok(())
-}
-
-/// Writes what stands in a selected line.
-fn push_text(
-    out: &mut String,
-    regex: &mut Regex,
-    settings: &Settings<'_>,
-    line: &str,
-) -> Result<(), Error> {
-    if let Some(template) = settings.template {
-        return push_replaced(out, regex, line, template);
+    /// The first of these lines, so many, and the others.
+    fn split(self, count: usize) -> (Part<'t>, Part<'t>) {
+        let place = self
+            .text
+            .len()
+            .saturating_sub(skip_lines(self.text.as_bytes(), count).len());
+        let (first, rest) = match self.text.split_at_checked(place) {
+            Some(both) if !self.is_broken => both,
+            _ => return (self, Part::of_text("")),
+        };
+        (Part::of_text(first), Part::of_text(rest))
     }
-    if settings.has_colours && !settings.inverted {
-        return push_coloured(out, regex, line);
+
+    /// Lines that are a text.
+    pub fn of_text(text: &'t str) -> Part<'t> {
+        Part {
+            text,
+            bytes: text.as_bytes(),
+            is_broken: false,
+        }
     }
-    out.push_str(line)?;
-    Ok(())
-}
 
-fn push_selected(
-    out: &mut String,
-    regex: &mut Regex,
-    settings: &Settings<'_>,
-    style: Style<'_>,
-    line: Line<'_>,
-) -> Result<(), Error> {
-    push_prefix(out, style, line.number, ":")?;
-    push_text(out, regex, settings, line.text)?;
-    out.push('\n')?;
-    Ok(())
-}
-
-/// Writes a line that is not selected, unless matches alone are asked for.
-fn push_near(
-    out: &mut String,
-    report: Report,
-    style: Style<'_>,
-    line: Line<'_>,
-) -> Result<(), AllocError> {
-    if matches!(report, Report::Matches) {
-        return Ok(());
+    /// A line in this file, from its first byte on.
+    fn rest_of(self, line: Line<'t>) -> Rest<'t> {
+        Rest {
+            text: line.text,
+            bytes: self.bytes_of(line),
+            is_broken: self.is_broken,
+            start: 0,
+        }
     }
-    push_prefix(out, style, line.number, "-")?;
-    out.push_str(line.text)?;
-    out.push('\n')
 }
 
-/// Writes what a match took, or what stands for it, with what stands before a line, on a line of its own.
-fn push_part(
-    out: &mut String,
-    style: Style<'_>,
-    number: usize,
-    part: &str,
-) -> Result<(), AllocError> {
-    if part.is_empty() {
-        return Ok(());
+/// What is left of a line, as it reads and as it is in the file.
+#[derive(Clone, Copy)]
+struct Rest<'t> {
+    text: &'t str,
+    bytes: &'t [u8],
+    is_broken: bool,
+    /// Where it begins in the text of the line.
+    start: usize,
+}
+
+impl<'t> Rest<'t> {
+    /// Takes what is before this byte of the text of the line.
+    fn take_to(&mut self, end: usize) -> &'t [u8] {
+        let Some((text, rest)) = self.text.split_at_checked(end.saturating_sub(self.start)) else {
+            return &[];
+        };
+        let length = if self.is_broken {
+            bytes_read_as(self.bytes, text)
+        } else {
+            text.len()
+        };
+        let (bytes, left) = match self.bytes.split_at_checked(length) {
+            Some(both) => both,
+            None => (self.bytes, self.bytes),
+        };
+        self.text = rest;
+        self.bytes = left;
+        self.start = self.start.saturating_add(text.len());
+        bytes
     }
-    push_prefix(out, style, number, ":")?;
-    push_painted(out, style.has_colours, MATCH, part)?;
-    out.push('\n')
 }
 
-/// Writes each match of a line.
-fn push_parts(
-    out: &mut String,
-    regex: &mut Regex,
-    style: Style<'_>,
-    line: Line<'_>,
-) -> Result<(), Error> {
-    for found in regex.find_iter(line.text) {
-        push_part(out, style, line.number, found?.as_str())?;
-    }
-    Ok(())
-}
-
-/// Writes what stands for each match of a line.
-fn push_expanded(
+/// A file that is searched from its first line to its last.
+#[derive(Drop)]
+pub struct Search<'s> {
     alloc: Global,
-    out: &mut String,
-    regex: &mut Regex,
-    style: Style<'_>,
-    line: Line<'_>,
-    template: &str,
-) -> Result<(), Error> {
-    for captures in regex.captures_iter(line.text) {
-        let mut part = String::new(alloc);
-        captures?.expand(template, &mut part)?;
-        push_part(out, style, line.number, part.as_str())?;
-    }
-    Ok(())
+    settings: Settings<'s>,
+    name: &'s str,
+    /// No line of a file before it was selected.
+    is_first: bool,
+    /// How many lines were searched.
+    passed: usize,
+    /// How many of them are selected.
+    selected: usize,
+    around: Around,
+    /// A zero byte was read.
+    pub is_binary: bool,
+    /// A line was selected since, and is not written.
+    pub is_untold: bool,
 }
 
-/// Writes the matches of a selected line, or what stands for them; under `inverted` it has none.
-fn push_matches(
-    alloc: Global,
-    out: &mut String,
-    regex: &mut Regex,
-    settings: &Settings<'_>,
-    style: Style<'_>,
-    line: Line<'_>,
-) -> Result<(), Error> {
-    if settings.inverted {
-        return Ok(());
+impl<'s> Search<'s> {
+    pub fn new(alloc: Global, settings: Settings<'s>, name: &'s str, is_first: bool) -> Search<'s> {
+        Search {
+            alloc,
+            settings,
+            name,
+            is_first,
+            passed: 0,
+            selected: 0,
+            around: Around::new(alloc),
+            is_binary: false,
+            is_untold: false,
+        }
     }
-    match settings.template {
-        Some(template) => push_expanded(alloc, out, regex, style, line, template),
-        None => push_parts(out, regex, style, line),
+
+    /// Whether a line is selected.
+    pub fn is_selected(&self) -> bool {
+        self.selected > 0
+    }
+
+    /// Whether nothing that follows can change what is written.
+    pub fn is_done(&self) -> bool {
+        match self.settings.report {
+            Report::Count => false,
+            Report::Name => self.is_selected(),
+            Report::Lines | Report::Matches => self.is_untold,
+        }
+    }
+
+    /// The number of the next line.
+    pub fn next_number(&self) -> usize {
+        self.passed.saturating_add(1)
+    }
+
+    /// Passes over a line.
+    pub fn skip_line(&mut self) {
+        self.passed = self.passed.saturating_add(1);
+    }
+
+    fn style(&self) -> Style<'s> {
+        Style {
+            name: self.settings.has_names.then_some(self.name),
+            has_numbers: self.settings.has_numbers,
+            has_colours: self.settings.has_colours,
+        }
+    }
+
+    /// Searches lines of the file, and writes what is asked for of them. What is returned is left of them: nothing, or the
+    /// lines after one that failed.
+    pub fn search<'t>(
+        &mut self,
+        out: &mut Output,
+        matcher: &mut Matcher,
+        part: Part<'t>,
+    ) -> Option<(Failure, Part<'t>)> {
+        let MatchingLines { lines, failure } = matching_lines(
+            self.alloc,
+            &mut matcher.regex,
+            matcher.required.as_ref(),
+            part.text,
+            self.settings.inverted,
+        );
+        let Some(failure) = failure else {
+            return self.write(out, &mut matcher.regex, part, part, &lines);
+        };
+        let (first, rest) = part.split(failure.number);
+        let failed = self.failed(failure, rest);
+        match self.write(out, &mut matcher.regex, part, first, &lines) {
+            None => failed,
+            earlier => earlier,
+        }
+    }
+
+    /// Writes the first lines of a part, of which these are selected, and passes them. It ends at a line that fails, with what
+    /// is left of the part after it.
+    fn write<'t>(
+        &mut self,
+        out: &mut Output,
+        regex: &mut Regex,
+        part: Part<'t>,
+        first: Part<'t>,
+        lines: &[Line<'t>],
+    ) -> Option<(Failure, Part<'t>)>
+        requires { AreRising 1 (numbers_of lines.now) }
+    {
+        let Err(failure) = self.push(out, regex, first, lines) else {
+            let passed = self.pass(first, lines);
+            return self.failed(passed.err()?, Part::of_text(""));
+        };
+        let number = failure.number;
+        let (done, rest) = if number == 0 {
+            (first, Part::of_text(""))
+        } else {
+            part.split(number)
+        };
+        let failed = self.failed(failure, rest);
+        let _kept = self.pass(done, lines_to(lines, number));
+        failed
+    }
+
+    /// A failure, with the number of its line in the file.
+    fn failed<'t>(&self, failure: Failure, rest: Part<'t>) -> Option<(Failure, Part<'t>)> {
+        let number = match failure.number {
+            0 => 0,
+            number => self.passed.saturating_add(number),
+        };
+        let error = failure.error;
+        Some((Failure { number, error }, rest))
+    }
+
+    /// Writes what is asked for of these lines, of which these are selected.
+    fn push(
+        &mut self,
+        out: &mut Output,
+        regex: &mut Regex,
+        part: Part<'_>,
+        lines: &[Line<'_>],
+    ) -> Result<(), Failure>
+        requires { AreRising 1 (numbers_of lines.now) }
+    {
+        if self.is_binary || matches!(self.settings.report, Report::Count | Report::Name) {
+            return Ok(());
+        }
+        let page = Page {
+            alloc: self.alloc,
+            settings: self.settings,
+            style: self.style(),
+            is_first: self.is_first,
+            part,
+            passed: self.passed,
+        };
+        match self.settings.context {
+            Some(context) => page.push_shown(out, regex, context, &mut self.around, lines),
+            None => page.push_lines(out, regex, lines),
+        }
+    }
+
+    /// Passes these lines, of which these are selected.
+    fn pass(&mut self, part: Part<'_>, lines: &[Line<'_>]) -> Result<(), Failure> {
+        let count = part.count();
+        self.passed = self.passed.saturating_add(count);
+        self.selected = self.selected.saturating_add(lines.len());
+        self.is_untold = self.is_untold || (self.is_binary && !lines.is_empty());
+        match self.settings.context {
+            Some(context) => {
+                fail_for_memory(0, self.around.pass(context, lines, part.bytes, count))
+            }
+            None => Ok(()),
+        }
+    }
+
+    /// Writes what is asked for of the whole file.
+    pub fn finish(&self, out: &mut Output) -> Result<(), AllocError> {
+        let style = self.style();
+        match self.settings.report {
+            Report::Count => {
+                push_name(&mut out.kept, style, ":")?;
+                let count = self.selected.to_string(self.alloc)?;
+                out.kept.extend_from_slice(count.as_bytes())?;
+                out.end_line()
+            }
+            Report::Name if self.is_selected() => {
+                push_painted(&mut out.kept, style.has_colours, NAME, self.name.as_bytes())?;
+                out.end_line()
+            }
+            _ => Ok(()),
+        }
     }
 }
 
-/// Writes what is asked for of a selected line.
-fn push_line(
-    alloc: Global,
-    out: &mut String,
-    regex: &mut Regex,
-    settings: &Settings<'_>,
-    style: Style<'_>,
-    line: Line<'_>,
-) -> Result<(), Error> {
-    match settings.report {
-        Report::Matches => push_matches(alloc, out, regex, settings, style, line),
-        _ => push_selected(out, regex, settings, style, line),
-    }
-}
-
-/// Writes what separates lines that do not follow each other.
-fn push_gap(out: &mut String, style: Style<'_>) -> Result<(), AllocError> {
-    push_painted(out, style.has_colours, SEPARATOR, "--")?;
-    out.push('\n')
+/// Those of the lines whose number is at most this.
+fn lines_to<'l, 't>(lines: &'l [Line<'t>], number: usize) -> &'l [Line<'t>] {
+    let count = lines.iter().filter(|line| line.number <= number).count();
+    lines.get(..count).unwrap_or(lines)
 }
 
 /// The error with the number of the line where it comes.
@@ -198,7 +315,7 @@ fn fail_at(number: usize, pushed: Result<(), Error>) -> Result<(), Failure> {
     }
 }
 
-/// The same, where only memory can be wanted.
+/// The same, if the only error is out of memory.
 fn fail_for_memory(number: usize, pushed: Result<(), AllocError>) -> Result<(), Failure> {
     match pushed {
         Ok(()) => Ok(()),
@@ -209,24 +326,8 @@ fn fail_for_memory(number: usize, pushed: Result<(), AllocError>) -> Result<(), 
     }
 }
 
-/// Writes selected lines.
-fn push_lines(
-    alloc: Global,
-    out: &mut String,
-    regex: &mut Regex,
-    settings: &Settings<'_>,
-    style: Style<'_>,
-    lines: &[Line<'_>],
-) -> Result<(), Failure> {
-    for line in lines {
-        let pushed = push_line(alloc, out, regex, settings, style, *line);
-        fail_at(line.number, pushed)?;
-    }
-    Ok(())
-}
-
 /// Whether lines are left out before the line with this number; `last` is that of the line written before, if there is
-/// one in this text.
+/// one in this file.
 fn has_gap(last: Option<usize>, number: usize, is_first: bool) -> bool {
     match last {
         Some(last) => number.saturating_sub(last) > 1,
@@ -234,142 +335,262 @@ fn has_gap(last: Option<usize>, number: usize, is_first: bool) -> bool {
     }
 }
 
-/// Writes a line that is shown.
-fn push_next(
+/// What is written of lines of a file.
+#[derive(Clone, Copy)]
+struct Page<'p> {
     alloc: Global,
-    out: &mut String,
-    regex: &mut Regex,
-    settings: &Settings<'_>,
-    style: Style<'_>,
-    shown: Shown<'_>,
-) -> Result<(), Error> {
-    if shown.is_selected {
-        push_line(alloc, out, regex, settings, style, shown.line)
-    } else {
-        push_near(out, settings.report, style, shown.line)?;
+    settings: Settings<'p>,
+    style: Style<'p>,
+    /// No line of a file before it was selected.
+    is_first: bool,
+    part: Part<'p>,
+    /// How many lines are before these.
+    passed: usize,
+}
+
+impl<'p> Page<'p> {
+    /// Writes selected lines.
+    fn push_lines(
+        &self,
+        out: &mut Output,
+        regex: &mut Regex,
+        lines: &[Line<'p>],
+    ) -> Result<(), Failure> {
+        for line in lines {
+            let pushed = self.push_line(out, regex, *line);
+            fail_at(line.number, pushed)?;
+        }
         Ok(())
     }
-}
 
-/// Writes selected lines and the lines around them.
-fn push_shown(
-    alloc: Global,
-    out: &mut String,
-    regex: &mut Regex,
-    settings: &Settings<'_>,
-    style: Style<'_>,
-    shown: &[Shown<'_>],
-    is_first: bool,
-) -> Result<(), Failure> {
-    let mut last = None;
-    for shown in shown {
-        let number = shown.line.number;
-        if has_gap(last, number, is_first) {
-            fail_for_memory(number, push_gap(out, style))?;
+    /// Writes selected lines and the lines around them.
+    fn push_shown(
+        &self,
+        out: &mut Output,
+        regex: &mut Regex,
+        context: Context,
+        around: &mut Around,
+        lines: &[Line<'p>],
+    ) -> Result<(), Failure>
+        requires { AreRising 1 (numbers_of lines.now) }
+    {
+        let Ok(shown) = with_context(self.alloc, self.part.text, lines, context, around.owed) else {
+            return fail_for_memory(0, Err(AllocError));
+        };
+        if let Some(first) = lines.first() {
+            fail_for_memory(0, self.push_before(out, context, around, first.number))?;
         }
-        last = Some(number);
-        let pushed = push_next(alloc, out, regex, settings, style, *shown);
-        fail_at(number, pushed)?;
-    }
-    Ok(())
-}
-
-/// Writes how many lines are selected.
-fn push_count(out: &mut String, style: Style<'_>, count: usize) -> Result<(), AllocError> {
-    push_name(out, style, ":")?;
-    writeln!(out, "{count}")
-}
-
-/// Writes the name of a text in which a line is selected.
-fn push_text_name(
-    out: &mut String,
-    style: Style<'_>,
-    name: &str,
-    is_selected: bool,
-) -> Result<(), AllocError> {
-    if is_selected {
-        push_painted(out, style.has_colours, NAME, name)?;
-        out.push('\n')?;
-    }
-    Ok(())
-}
-
-/// Writes selected lines, and those around them where that is asked for.
-fn push_page(
-    alloc: Global,
-    out: &mut String,
-    regex: &mut Regex,
-    settings: &Settings<'_>,
-    style: Style<'_>,
-    source: Source<'_>,
-    lines: &[Line<'_>],
-) -> Result<(), Failure>
-    requires { AreRising 1 (numbers_of lines.now) }
-{
-    match settings.context {
-        Some(context) => match with_context(alloc, source.text, lines, context) {
-            Ok(shown) => { push_shown(alloc, out, regex, settings, style, &shown, source.is_first) }
-            Err(error) => fail_for_memory(0, Err(error)),
-        },
-        None => push_lines(alloc, out, regex, settings, style, lines),
-    }
-}
-
-/// Writes what is asked for of a text, by its selected lines.
-fn push_report(
-    alloc: Global,
-    out: &mut String,
-    regex: &mut Regex,
-    settings: &Settings<'_>,
-    style: Style<'_>,
-    source: Source<'_>,
-    lines: &[Line<'_>],
-) -> Result<(), Failure>
-    requires { AreRising 1 (numbers_of lines.now) }
-{
-    match settings.report {
-        Report::Count => fail_for_memory(0, push_count(out, style, lines.len())),
-        Report::Name => {
+        for shown in &shown {
+            let number = shown.line.number;
             fail_for_memory(
-                0,
-                push_text_name(out, style, source.name, !lines.is_empty()),
-            )
+                number,
+                self.push_gap(out, around, self.passed.saturating_add(number)),
+            )?;
+            let pushed = self.push_next(out, regex, *shown);
+            fail_at(number, pushed)?;
         }
-        _ => push_page(alloc, out, regex, settings, style, source, lines),
+        Ok(())
     }
-}
 
-/// Searches a text, and writes what is asked for of it.
-pub fn report(
-    alloc: Global,
-    out: &mut String,
-    matcher: &mut Matcher,
-    settings: &Settings<'_>,
-    source: Source<'_>,
-) -> Outcome {
-    let style = Style {
-        name: settings.has_names.then_some(source.name),
-        has_numbers: settings.has_numbers,
-        has_colours: settings.has_colours,
-    };
-    let MatchingLines { lines, failure } = matching_lines(
-        alloc,
-        &mut matcher.regex,
-        matcher.required.as_ref(),
-        source.text,
-        settings.inverted,
-    );
-    let pushed = push_report(
-        alloc,
-        out,
-        &mut matcher.regex,
-        settings,
-        style,
-        source,
-        &lines,
-    );
-    Outcome {
-        is_selected: !lines.is_empty(),
-        failure: pushed.err().or(failure),
+    /// Writes the lines before these that are near the first selected one.
+    fn push_before(
+        &self,
+        out: &mut Output,
+        context: Context,
+        around: &mut Around,
+        first: usize,
+    ) -> Result<(), AllocError> {
+        let (start, bytes) = around.before(context, self.passed, first);
+        let has_gap = has_gap(around.last, start, self.is_first);
+        if start > self.passed {
+            return Ok(());
+        }
+        if has_gap {
+            self.push_separator(out)?;
+        }
+        self.push_tail(out, start, bytes)?;
+        around.last = Some(self.passed);
+        Ok(())
+    }
+
+    /// Writes whole lines that are not selected, from this number on.
+    fn push_tail(&self, out: &mut Output, start: usize, bytes: &[u8]) -> Result<(), AllocError> {
+        let mut rest = bytes;
+        let mut number = start;
+        'lines: for _ in 0..bytes.len() {
+            let Some(at) = memchr(b'\n', rest) else { break };
+            self.push_near(out, number, rest.get(..at).unwrap_or(&[]))?;
+            rest = rest.get(at.saturating_add(1)..).unwrap_or(&[]);
+            number = number.saturating_add(1);
+        }
+        Ok(())
+    }
+
+    /// Writes what separates lines, if lines are left out before the one with this number, which is written next.
+    fn push_gap(
+        &self,
+        out: &mut Output,
+        around: &mut Around,
+        number: usize,
+    ) -> Result<(), AllocError> {
+        if has_gap(around.last, number, self.is_first) {
+            self.push_separator(out)?;
+        }
+        around.last = Some(number);
+        Ok(())
+    }
+
+    /// Writes what separates lines that do not follow each other.
+    fn push_separator(&self, out: &mut Output) -> Result<(), AllocError> {
+        push_painted(&mut out.kept, self.style.has_colours, SEPARATOR, b"--")?;
+        out.end_line()
+    }
+
+    /// Writes a line that is shown.
+    fn push_next(
+        &self,
+        out: &mut Output,
+        regex: &mut Regex,
+        shown: Shown<'p>,
+    ) -> Result<(), Error> {
+        if shown.is_selected {
+            return self.push_line(out, regex, shown.line);
+        }
+        let number = self.passed.saturating_add(shown.line.number);
+        self.push_near(out, number, self.part.bytes_of(shown.line))?;
+        Ok(())
+    }
+
+    /// Writes a line that is not selected, unless matches alone are asked for.
+    fn push_near(&self, out: &mut Output, number: usize, bytes: &[u8]) -> Result<(), AllocError> {
+        if matches!(self.settings.report, Report::Matches) {
+            return Ok(());
+        }
+        push_prefix(&mut out.kept, self.style, number, "-")?;
+        out.push(bytes)?;
+        out.end_line()
+    }
+
+    /// Writes what is asked for of a selected line.
+    fn push_line(&self, out: &mut Output, regex: &mut Regex, line: Line<'p>) -> Result<(), Error> {
+        match self.settings.report {
+            Report::Matches if self.settings.inverted => Ok(()),
+            Report::Matches => self.push_matches(out, regex, line),
+            _ => self.push_selected(out, regex, line),
+        }
+    }
+
+    fn push_selected(
+        &self,
+        out: &mut Output,
+        regex: &mut Regex,
+        line: Line<'p>,
+    ) -> Result<(), Error> {
+        let number = self.passed.saturating_add(line.number);
+        push_prefix(&mut out.kept, self.style, number, ":")?;
+        match self.settings.template {
+            Some(template) => self.push_replaced(out, regex, line, template)?,
+            None if self.settings.has_colours && !self.settings.inverted => {
+                self.push_coloured(out, regex, line)?
+            }
+            None => out.push(self.part.bytes_of(line))?,
+        }
+        out.end_line()?;
+        Ok(())
+    }
+
+    /// Writes the line, its matches in a colour.
+    fn push_coloured(
+        &self,
+        out: &mut Output,
+        regex: &mut Regex,
+        line: Line<'p>,
+    ) -> Result<(), Error> {
+        let mut rest = self.part.rest_of(line);
+        for found in regex.find_iter(line.text) {
+            let found = found?;
+            out.push(rest.take_to(found.start()))?;
+            let bytes = rest.take_to(found.end());
+            if !bytes.is_empty() {
+                push_painted(&mut out.kept, true, MATCH, bytes)?;
+            }
+        }
+        out.push(rest.bytes)?;
+        Ok(())
+    }
+
+    /// Writes the line, its matches replaced.
+    fn push_replaced(
+        &self,
+        out: &mut Output,
+        regex: &mut Regex,
+        line: Line<'p>,
+        template: &str,
+    ) -> Result<(), Error> {
+        let mut rest = self.part.rest_of(line);
+        for captures in regex.captures_iter(line.text) {
+            let captures = captures?;
+            let found = captures.get_match();
+            out.push(rest.take_to(found.start()))?;
+            let mut part = String::new(self.alloc);
+            captures.expand(template, &mut part)?;
+            out.push(part.as_bytes())?;
+            rest.take_to(found.end());
+        }
+        out.push(rest.bytes)?;
+        Ok(())
+    }
+
+    /// Writes each match of a line, or what stands for it, on a line of its own.
+    fn push_matches(
+        &self,
+        out: &mut Output,
+        regex: &mut Regex,
+        line: Line<'p>,
+    ) -> Result<(), Error> {
+        match self.settings.template {
+            Some(template) => self.push_expanded(out, regex, line, template),
+            None => self.push_found(out, regex, line),
+        }
+    }
+
+    fn push_found(&self, out: &mut Output, regex: &mut Regex, line: Line<'p>) -> Result<(), Error> {
+        let mut rest = self.part.rest_of(line);
+        for found in regex.find_iter(line.text) {
+            let found = found?;
+            rest.take_to(found.start());
+            self.push_part(out, line.number, rest.take_to(found.end()))?;
+        }
+        Ok(())
+    }
+
+    fn push_expanded(
+        &self,
+        out: &mut Output,
+        regex: &mut Regex,
+        line: Line<'p>,
+        template: &str,
+    ) -> Result<(), Error> {
+        for captures in regex.captures_iter(line.text) {
+            let mut part = String::new(self.alloc);
+            captures?.expand(template, &mut part)?;
+            self.push_part(out, line.number, part.as_bytes())?;
+        }
+        Ok(())
+    }
+
+    /// Writes what is not empty on a line of its own, with what is before a line.
+    fn push_part(&self, out: &mut Output, number: usize, part: &[u8]) -> Result<(), AllocError> {
+        if part.is_empty() {
+            return Ok(());
+        }
+        push_prefix(
+            &mut out.kept,
+            self.style,
+            self.passed.saturating_add(number),
+            ":",
+        )?;
+        push_painted(&mut out.kept, self.style.has_colours, MATCH, part)?;
+        out.end_line()
     }
 }

@@ -20,7 +20,7 @@ pub enum Report {
 #[derive(Clone, Copy)]
 pub struct Settings<'a> {
     pub pattern: PatternOptions,
-    /// Folders are searched with what is in them, but for hidden and binary files.
+    /// Folders are searched with what is in them, but for hidden files and folders.
     pub is_recursive: bool,
     pub report: Report,
     /// Lines without a match are selected.

@@ -1,3 +1,4 @@
 pub mod BackReferences
 pub mod Covering
+pub mod Reports
 pub mod Stepping

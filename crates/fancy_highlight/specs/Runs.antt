@@ -22,11 +22,11 @@ left s = length s.writer.text.now - s.writer.at
 abbrev pub steps_left : Run → ℕ
 steps_left s = steps_by (rule_count s) (left s) s.entered_here (depth s)
 
--- nothing is written, entered or left
+-- Nothing is written or entered. A region may be left whose rule is left out.
 pub record IsSame (s t : Run) : Type 0 where
   pub grammar : t.grammar.now ≡ s.grammar.now
   pub writer : t.writer ≡ s.writer
-  pub depth : depth t ≡ depth s
+  pub depth : depth t ≤ depth s
   pub entered : t.entered_here ≡ s.entered_here
 
 -- by the same grammar, in the same text

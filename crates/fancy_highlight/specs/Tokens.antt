@@ -1,9 +1,7 @@
 -- Tokens that cover a text.
-use Rattle.std.specs.Prelude.{◌≡◌, ◌<◌, ℕ, IsTrue, List, [], ◌∷◌, length, ⊤}
+use Rattle.std.specs.Prelude.{◌≡◌, ◌<◌, ℕ, IsTrue, List, [], ◌∷◌, length}
 use Rattle.std.proofs.Props.{props}
 use Rattle.fancy_meaning.specs.Places.{is_place}
-use Rattle.fancy_highlight.specs.declared.error.HighlightError.{HighlightError}
-use Rattle.fancy_highlight.specs.declared.error.HighlightError.TheVariants as error
 use Rattle.fancy_highlight.specs.declared.tokens.Token.{Token}
 
 -- it begins at this place of the text, takes something, and ends at a place between two characters
@@ -20,11 +18,6 @@ AreTokens text from (t ∷ tokens) to = IsToken text from t × AreTokens text t.
 -- from its start to its end
 abbrev pub Covers : List ℕ → List Token → Type 0
 Covers text tokens = AreTokens text 0 tokens (length text)
-
--- Why a text has none: an end that makes no pattern is told at a place of the text.
-abbrev pub IsToldIn : List ℕ → HighlightError → Type 0
-IsToldIn text (error.End at fault) = IsTrue (is_place text at)
-IsToldIn text error.Memory = ⊤
 
 pub AreTokens-prop : (text : List ℕ) (from : ℕ) (tokens : List Token) (to : ℕ) → IsProp (AreTokens text from tokens to)
 AreTokens-prop text from [] to = hlevel props

@@ -1,7 +1,7 @@
 //! Which rules are in force in a region: what its patterns stand for.
 
 use crate::error::{Fault, GrammarError};
-use crate::grammar::{Context, Rule};
+use crate::grammar::{Context, Rule, Tried};
 use std::alloc::{AllocError, Global};
 use std::collections::BTreeMap;
 
@@ -60,8 +60,8 @@ impl Rules {
             },
             _ => {
                 if let Some(tree) = rule.tree() {
-                    context.rules.push(number)?;
-                    context.trees.push(tree)?;
+                    let rule = number;
+                    context.rules.push(Tried { rule, tree })?;
                 }
             }
         }

@@ -1,11 +1,9 @@
-//! Why rules are no grammar, and why a text has no tokens.
+//! Why rules are no grammar.
 
 ghost use Rattle.std.specs.Prelude.{◌≡◌};
 ghost use Rattle.fancy_highlight.specs.declared.error.GrammarError.TheVariants as grammar;
-ghost use Rattle.fancy_highlight.specs.declared.error.HighlightError.TheVariants as highlight;
 
-use fancy_expr::error::Error as EngineError;
-use fancy_pattern::error::ErrorKind;
+use fancy_regex::Error;
 use std::alloc::{AllocError, AllocFailed};
 use std::fmt;
 
@@ -16,10 +14,8 @@ pub enum Fault {
     Wanted(&'static str),
     /// The repository has no rule of this name.
     NoSuchRule,
-    /// The pattern cannot be read: the byte of the fault, and what is wrong there.
-    Pattern { at: usize, kind: ErrorKind },
-    /// The pattern is read, and the engine refuses it.
-    Refused(EngineError),
+    /// The pattern cannot be read, or it is refused.
+    Pattern(Error),
 }
 
 /// Why rules are no grammar.
@@ -27,6 +23,8 @@ pub enum Fault {
 pub enum GrammarError {
     /// The text is no JSON: the line and column of the fault.
     Json { line: usize, column: usize },
+    /// The text is JSON, but no object: what it is.
+    NoObject(&'static str),
     /// A part of the rules, by its path as a JSON pointer, and what is wrong with it.
     At { path: String, fault: Fault },
     /// A request for memory was refused.
@@ -54,10 +52,10 @@ impl fmt::Display for Fault {
         match self {
             Fault::Wanted(wanted) => write!(f, "{wanted} is wanted there"),
             Fault::NoSuchRule => write!(f, "the repository has no such rule"),
-            Fault::Pattern { at, kind } => {
+            Fault::Pattern(Error::ParseError(at, kind)) => {
                 write!(f, "the pattern cannot be read from byte {at} on ({kind:?})")
             }
-            Fault::Refused(error) => write!(f, "the pattern is refused: {error}"),
+            Fault::Pattern(error) => write!(f, "the pattern is refused: {error}"),
         }
     }
 }
@@ -68,6 +66,9 @@ impl fmt::Display for GrammarError {
             GrammarError::Json { line, column } => {
                 write!(f, "the rules are no JSON, line {line}, column {column}")
             }
+            GrammarError::NoObject(found) => {
+                write!(f, "expected an object with `patterns`, found {found}")
+            }
             GrammarError::At { path, fault } => write!(f, "{path}: {fault}"),
             GrammarError::Memory => write!(f, "memory ran out"),
         }
@@ -75,41 +76,3 @@ impl fmt::Display for GrammarError {
 }
 
 impl std::error::Error for GrammarError {}
-
-/// Why a text has no tokens.
-#[derive(Debug, Drop)]
-pub enum HighlightError {
-    /// What a begin took, which ends before this byte of the text, makes no pattern of its region's end.
-    End { at: usize, fault: Fault },
-    /// A request for memory was refused.
-    Memory,
-}
-
-impl From<AllocError> for HighlightError {
-    ghost from_gives = { λ _ e. e ≡ highlight.Memory };
-
-    fn from(_e: AllocError) -> HighlightError {
-        HighlightError::Memory
-    }
-}
-
-impl<T: Drop> From<AllocFailed<T>> for HighlightError {
-    ghost from_gives = { λ _ e. e ≡ highlight.Memory };
-
-    fn from(_e: AllocFailed<T>) -> HighlightError {
-        HighlightError::Memory
-    }
-}
-
-impl fmt::Display for HighlightError {
-    fn fmt<W: fmt::Write>(&self, f: &mut fmt::Formatter<W>) -> fmt::Result {
-        match self {
-            HighlightError::End { at, fault } => {
-                write!(f, "the end of what begins before byte {at}: {fault}")
-            }
-            HighlightError::Memory => write!(f, "memory ran out"),
-        }
-    }
-}
-
-impl std::error::Error for HighlightError {}

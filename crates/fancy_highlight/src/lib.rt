@@ -6,6 +6,8 @@ pub mod error;
 mod frames;
 mod grammar;
 pub mod highlighter;
+pub mod left_out;
+mod omitted;
 mod patterns;
 mod reader;
 mod references;

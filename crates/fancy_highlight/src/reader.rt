@@ -3,13 +3,12 @@
 use crate::contexts::Rules;
 use crate::error::{Fault, GrammarError};
 use crate::grammar::{End, Grammar, GroupNames, MatchRule, Region, Rule};
-use crate::patterns::read_pattern;
+use crate::left_out::{LeftOut, is_limit};
+use crate::patterns::{check_sample, compile};
 use crate::references::{Took, end_of_while, refers};
-use crate::values::Part;
-use fancy_expr::error::Error as EngineError;
-use fancy_pattern::error::PatternError;
+use crate::values::{Part, kind_of};
+use fancy_regex::Error;
 use fancy_scanner::scanner::Scanner;
-use fancy_search::search::SearchOptions;
 use serde_json::Value;
 use std::alloc::{AllocError, Global};
 use std::collections::BTreeMap;
@@ -22,6 +21,10 @@ const MOST_DEPTH: usize = 250;
 pub(crate) struct Reader {
     alloc: Global,
     rules: Vec<Rule>,
+    /// The `name` of each rule, empty if it has none.
+    labels: Vec<String>,
+    /// The rules that are left out.
+    left_out: Vec<LeftOut>,
     names: Vec<String>,
     scanner: Scanner,
     /// How many trees the scanner has.
@@ -33,16 +36,71 @@ impl Reader {
         Reader {
             alloc,
             rules: Vec::new(alloc),
+            labels: Vec::new(alloc),
+            left_out: Vec::new(alloc),
             names: Vec::new(alloc),
             scanner: Scanner::new(alloc),
             trees: 0,
         }
     }
 
-    fn add_rule(&mut self, rule: Rule) -> Result<usize, AllocError> {
+    /// Adds a rule that stands for nothing yet, and answers its number.
+    fn add_rule(&mut self, part: &Part<'_>) -> Result<usize, AllocError> {
         let number = self.rules.len();
-        self.rules.push(rule)?;
+        let label = part.label(self.alloc)?;
+        self.labels.push(label)?;
+        self.rules.push(Rule::List(Vec::new(self.alloc)))?;
         Ok(number)
+    }
+
+    /// Sets what the rule with this number is.
+    fn set_rule(&mut self, number: usize, rule: Rule) {
+        if let Some(place) = self.rules.get_mut(number) {
+            *place = rule;
+        }
+    }
+
+    /// The `name` of the rule with this number.
+    fn label(&self, rule: usize) -> &str {
+        match self.labels.get(rule) {
+            Some(label) => label.as_str(),
+            None => "",
+        }
+    }
+
+    /// Leaves a rule out that has this error, if it says that a pattern exceeds a limit.
+    fn leave_out(&mut self, rule: usize, error: GrammarError) -> Result<(), GrammarError> {
+        match error {
+            GrammarError::At { path, fault } => match fault {
+                Fault::Pattern(error) => self.leave_out_by(rule, path, error),
+                fault => Err(GrammarError::At { path, fault }),
+            },
+            error => Err(error),
+        }
+    }
+
+    fn leave_out_by(
+        &mut self,
+        rule: usize,
+        path: String,
+        error: Error,
+    ) -> Result<(), GrammarError> {
+        if matches!(error, Error::Memory) {
+            return Err(GrammarError::Memory);
+        }
+        if !is_limit(&error) {
+            let fault = Fault::Pattern(error);
+            return Err(GrammarError::At { path, fault });
+        }
+        let name = String::from_str(self.alloc, self.label(rule))?;
+        self.left_out.push(LeftOut {
+            rule,
+            path,
+            name,
+            at: 0,
+            error,
+        })?;
+        Ok(())
     }
 
     fn add_name(&mut self, name: &str) -> Result<usize, AllocError> {
@@ -73,97 +131,80 @@ impl Reader {
     }
 
     /// Adds the pattern to the scanner, and answers the number of its tree.
-    fn add_pattern(&mut self, pattern: &str) -> Result<usize, Fault> {
-        let tree = match read_pattern(self.alloc, pattern) {
-            Ok(tree) => tree,
-            Err(PatternError::Parse { at, kind }) => return Err(Fault::Pattern { at, kind }),
-            Err(PatternError::Memory) => return Err(Fault::Refused(EngineError::Memory)),
-        };
-        match self
-            .scanner
-            .add_tree(&tree, &SearchOptions::default(), None)
-        {
-            Ok(()) => {}
-            Err(error) => return Err(Fault::Refused(error)),
-        }
+    fn add_pattern(&mut self, pattern: &str) -> Result<usize, Error> {
+        let tree = compile(self.alloc, pattern)?;
+        self.scanner.push(tree)?;
         let number = self.trees;
         self.trees = self.trees.saturating_add(1);
         Ok(number)
     }
 
-    /// The number of the tree of the pattern that this part is.
-    fn pattern(&mut self, part: Part<'_>) -> Result<usize, GrammarError> {
-        match part.value.as_str() {
-            None => Err(part.wanted("a pattern")),
-            Some(pattern) => match self.add_pattern(pattern) {
-                Ok(number) => Ok(number),
-                Err(fault) => Err(part.fault(fault)),
-            },
+    /// The number of the tree of the pattern that this part is, and its path.
+    fn pattern(&mut self, part: Part<'_>) -> Result<(usize, String), GrammarError> {
+        let Some(pattern) = part.value.as_str() else {
+            return Err(part.wanted("a pattern"));
+        };
+        match self.add_pattern(pattern) {
+            Ok(number) => Ok((number, part.path)),
+            Err(error) => Err(part.fault(Fault::Pattern(error))),
         }
     }
 
     /// Whether this pattern of an end can be read, whatever the groups took to which it refers.
-    fn check_end(&self, end: &str) -> Result<(), Fault> {
-        let sample = match Took::Sample.end(self.alloc, end) {
-            Ok(sample) => sample,
-            Err(_) => return Err(Fault::Refused(EngineError::Memory)),
-        };
-        match read_pattern(self.alloc, sample.as_str()) {
-            Ok(_) => Ok(()),
-            Err(PatternError::Parse { at, kind }) => Err(Fault::Pattern { at, kind }),
-            Err(PatternError::Memory) => Err(Fault::Refused(EngineError::Memory)),
-        }
+    fn check_end(&self, end: &str) -> Result<(), Error> {
+        let sample = Took::Sample.end(self.alloc, end)?;
+        check_sample(self.alloc, sample.as_str())
     }
 
     /// How a region ends by this pattern.
-    fn end_by(&mut self, end: &str) -> Result<End, Fault> {
+    fn end_by(&mut self, end: &str) -> Result<End, Error> {
         if !refers(end) {
             return Ok(End::Tree(self.add_pattern(end)?));
         }
         self.check_end(end)?;
-        match String::from_str(self.alloc, end) {
-            Ok(end) => Ok(End::Refers(end)),
-            Err(_) => Err(Fault::Refused(EngineError::Memory)),
-        }
+        Ok(End::Refers(String::from_str(self.alloc, end)?))
     }
 
     /// How a region ends that goes on while this pattern has a match where a line begins.
-    fn end_by_while(&mut self, pattern: &str) -> Result<End, Fault> {
+    fn end_by_while(&mut self, pattern: &str) -> Result<End, Error> {
         self.check_end(pattern)?;
-        match end_of_while(self.alloc, pattern) {
-            Ok(end) => self.end_by(end.as_str()),
-            Err(_) => Err(Fault::Refused(EngineError::Memory)),
-        }
+        let end = end_of_while(self.alloc, pattern)?;
+        self.end_by(end.as_str())
     }
 
-    /// How a region ends that has this member, `end` or `while`, if it has it.
-    fn end(&mut self, part: &Part<'_>, member: &str) -> Result<Option<End>, GrammarError> {
-        let Some(part) = part.member(self.alloc, member)? else {
-            return Ok(None);
-        };
+    /// How a region ends by this part, a `while` or an `end`, and its path.
+    fn end(&mut self, part: Part<'_>, is_while: bool) -> Result<(End, String), GrammarError> {
         let Some(pattern) = part.value.as_str() else {
             return Err(part.wanted("a pattern"));
         };
-        let end = if member == "while" {
+        let end = if is_while {
             self.end_by_while(pattern)
         } else {
             self.end_by(pattern)
         };
         match end {
-            Ok(end) => Ok(Some(end)),
-            Err(fault) => Err(part.fault(fault)),
+            Ok(end) => Ok((end, part.path)),
+            Err(error) => Err(part.fault(Fault::Pattern(error))),
         }
     }
 
-    /// How a region ends, and whether its end is tried last; nothing where it has neither a `while` nor an `end`.
-    fn region_end(&mut self, part: &Part<'_>) -> Result<Option<(End, bool)>, GrammarError> {
-        if let Some(end) = self.end(part, "while")? {
-            return Ok(Some((end, false)));
+    /// How a region ends, and its path; nothing where it has neither a `while` nor an `end`.
+    fn region_end(&mut self, part: &Part<'_>) -> Result<Option<(End, String)>, GrammarError> {
+        if let Some(end) = part.member(self.alloc, "while")? {
+            return Ok(Some(self.end(end, true)?));
         }
-        match self.end(part, "end")? {
+        match part.member(self.alloc, "end")? {
             None => Ok(None),
-            Some(end) => Ok(Some((end, part.flag(self.alloc, "applyEndPatternLast")?))),
+            Some(end) => Ok(Some(self.end(end, false)?)),
         }
+    }
+
+    /// Whether the end is tried last, as never of a `while`.
+    fn is_end_last(&self, part: &Part<'_>) -> Result<bool, GrammarError> {
+        if part.value.get("while").is_some() {
+            return Ok(false);
+        }
+        part.flag(self.alloc, "applyEndPatternLast")
     }
 
     /// The names of one group, whose number is the name of this part.
@@ -216,8 +257,10 @@ impl Reader {
     }
 
     fn match_rule(&mut self, part: &Part<'_>, pattern: Part<'_>) -> Result<Rule, GrammarError> {
+        let (tree, path) = self.pattern(pattern)?;
         Ok(Rule::Match(MatchRule {
-            tree: self.pattern(pattern)?,
+            path,
+            tree,
             names: self.names_of(part, "name")?,
             captures: self.captures(part, "captures")?,
         }))
@@ -230,13 +273,16 @@ impl Reader {
         begin: Part<'_>,
         depth: usize,
     ) -> Result<Rule, GrammarError> {
-        let Some((end, end_last)) = self.region_end(part)? else {
+        let Some((end, end_path)) = self.region_end(part)? else {
             return Err(begin.wanted("an end or a while beside it, as for every begin,"));
         };
+        let (begin, begin_path) = self.pattern(begin)?;
         Ok(Rule::Region(Region {
-            begin: self.pattern(begin)?,
+            begin_path,
+            begin,
+            end_path,
             end,
-            end_last,
+            end_last: self.is_end_last(part)?,
             names: self.names_of(part, "name")?,
             content_names: self.names_of(part, "contentName")?,
             begin_captures: self.captures(part, "beginCaptures")?,
@@ -262,19 +308,29 @@ impl Reader {
         }
     }
 
-    /// Reads a rule, and answers its number.
+    /// Reads what a rule is.
+    #[cycle(reading)]
+    fn rule_in(&mut self, part: &Part<'_>, depth: usize) -> Result<Rule, GrammarError> {
+        if let Some(name) = part.member(self.alloc, "include")? {
+            self.include(name)
+        } else if let Some(pattern) = part.member(self.alloc, "match")? {
+            self.match_rule(part, pattern)
+        } else if let Some(begin) = part.member(self.alloc, "begin")? {
+            self.region(part, begin, depth)
+        } else {
+            Ok(Rule::List(self.patterns(part, depth)?))
+        }
+    }
+
+    /// Reads a rule, and answers its number. If a pattern of it exceeds a limit, it stands for nothing.
     #[cycle(reading)]
     fn rule(&mut self, part: &Part<'_>, depth: usize) -> Result<usize, GrammarError> {
-        let rule = if let Some(name) = part.member(self.alloc, "include")? {
-            self.include(name)?
-        } else if let Some(pattern) = part.member(self.alloc, "match")? {
-            self.match_rule(part, pattern)?
-        } else if let Some(begin) = part.member(self.alloc, "begin")? {
-            self.region(part, begin, depth)?
-        } else {
-            Rule::List(self.patterns(part, depth)?)
-        };
-        Ok(self.add_rule(rule)?)
+        let number = self.add_rule(part)?;
+        match self.rule_in(part, depth) {
+            Ok(rule) => self.set_rule(number, rule),
+            Err(error) => self.leave_out(number, error)?,
+        }
+        Ok(number)
     }
 
     /// Reads the patterns of a part, and answers their numbers; none if it has no patterns.
@@ -340,6 +396,9 @@ pub(crate) fn read_grammar(alloc: Global, text: &str) -> Result<(Grammar, Scanne
             });
         }
     };
+    if value.as_object().is_none() {
+        return Err(GrammarError::NoObject(kind_of(&value)));
+    }
     let part = Part {
         value: &value,
         path: String::new(alloc),
@@ -362,6 +421,8 @@ fn grammar_of(alloc: Global, part: &Part<'_>) -> Result<(Grammar, Scanner), Gram
     let contexts = rules.contexts()?;
     let grammar = Grammar {
         rules: rules.rules,
+        labels: reader.labels,
+        left_out: reader.left_out,
         contexts,
         root,
         names: reader.names,

@@ -1,22 +1,21 @@
 //! A text from match to match.
 
-ghost use Rattle.std.specs.Prelude.{◌≡◌, ◌<◌, IfErr, IfOk, IsFalse, IsTrue, OnOk, length, suc};
+ghost use Rattle.std.specs.Prelude.{◌≡◌, ◌≤◌, ◌<◌, IfOk, IsFalse, IsTrue, OnOk, length, suc};
 ghost use Rattle.fancy_matches.specs.Regexes.{span_of};
-ghost use Rattle.fancy_highlight.specs.Tokens.{Covers, IsToldIn};
+ghost use Rattle.fancy_highlight.specs.LeftOut.{AreReported};
+ghost use Rattle.fancy_highlight.specs.Tokens.{Covers};
 ghost use Rattle.fancy_scanner.specs.Scans.{text_of};
 
-use crate::error::{Fault, HighlightError};
-use crate::frames::{EndPlace, Frame, Role, with_end};
+use crate::frames::{EndPlace, Frame, Role};
 use crate::grammar::{Context, End, Grammar, GroupNames, MatchRule, Region, Rule};
-use crate::patterns::read_pattern;
+use crate::left_out::{Error, error_of};
+use crate::omitted::Omitted;
+use crate::patterns::compile;
 use crate::references::Took;
-use crate::tokens::{Highlights, LeftOut};
+use crate::tokens::Highlights;
 use crate::writer::Writer;
-use fancy_expr::error::Error as EngineError;
 use fancy_matches::found::Match;
-use fancy_pattern::error::PatternError;
-use fancy_scanner::scan_text::ScanText;
-use fancy_search::search::SearchOptions;
+use fancy_scanner::scan_text::{ScanText, TreeMatch};
 use std::alloc::{AllocError, Global};
 use std::collections::BTreeMap;
 use std::mem;
@@ -36,8 +35,9 @@ pub(crate) struct Run<'g, 'r, 't> {
     around: Vec<Frame<'g>>,
     /// How many regions were entered by begins that took nothing where the last token ends.
     entered_here: usize,
-    left_out: Option<LeftOut>,
+    omitted: Omitted<'t>,
     ghost same_text: { text_of scan ≡ writer.text.now },
+    ghost same_reports: { omitted.text.now ≡ writer.text.now },
 }
 
 /// A match, and what it is of.
@@ -46,6 +46,18 @@ struct Found<'t> {
     role: Role,
     tree: usize,
     whole: Match<'t>,
+    /// The number of the tree of the end of the region that it begins, if it begins one.
+    end: Option<usize>,
+}
+
+/// What a search comes to.
+#[derive(Clone, Copy)]
+enum Next<'t> {
+    Found(Found<'t>),
+    /// There is no further match.
+    Nothing,
+    /// A rule was left out.
+    LeftOut,
 }
 
 /// What a match did to the regions that are open.
@@ -68,6 +80,8 @@ impl<'g, 'r, 't> Run<'g, 'r, 't> {
     ) -> Result<Run<'g, 'r, 't>, AllocError>
         ensures { IfOk result (λ run. run.writer.text.now ≡ text_of scan.entry) }
     {
+        let rules = grammar.rules.len();
+        let omitted = Omitted::new(alloc, scan.text(), rules)?;
         let mut writer = Writer::new(alloc, scan.text());
         let scope = writer.enter_root(grammar.name)?;
         Ok(Run {
@@ -76,41 +90,130 @@ impl<'g, 'r, 't> Run<'g, 'r, 't> {
             scan,
             ends,
             writer,
-            top: Frame::root(alloc, &grammar.root, scope)?,
+            top: Frame::root(rules, &grammar.root, scope),
             around: Vec::new(alloc),
             entered_here: 0,
-            left_out: None,
+            omitted,
         })
     }
 
-    /// The next match: of the end and the rules that are in force the one that begins first, and of several that begin
-    /// there the one that is tried first.
-    fn find(&mut self) -> Result<Option<Found<'t>>, HighlightError>
-        ensures same { IsSame self.old self.new }
-        ensures told { IfErr result (IsToldIn self.old.writer.text.now) }
+    /// Leaves a rule out from here on, because of its pattern or that of its end.
+    fn leave_out(&mut self, rule: usize, is_end: bool, error: Error) -> Result<(), AllocError>
+        ensures { IsSame self.old self.new }
     {
         let at = self.writer.at();
-        let step = match self.scan.find_among(&self.top.order, at) {
-            Ok(step) => step,
-            Err(_) => return Err(HighlightError::Memory),
-        };
-        if let (None, Some(stopped)) = (self.left_out, step.stopped) {
-            self.left_out = Some(LeftOut {
-                at,
-                limit: stopped.limit,
-            });
+        let report = self.grammar.report(self.alloc, rule, is_end, at, error)?;
+        self.omitted.push(report)
+    }
+
+    /// What a match is of whose tree stands at this place of the order.
+    fn role(&self, index: usize) -> Option<Role> {
+        self.top.role(index)
+    }
+
+    /// The innermost region was entered at this place by a begin that took nothing.
+    fn is_top_entered_at(&self, at: usize) -> bool {
+        self.top.is_entered_at(at)
+    }
+
+    /// Leaves out each rule whose search exceeds a limit here. Another search for the others costs nothing: what was found
+    /// of them holds.
+    fn leave_out_stopped(&mut self, order: &[usize]) -> Result<(), AllocError>
+        ensures { IsSame self.old self.new }
+    {
+        let at = self.writer.at();
+        for (index, tree) in order.iter().enumerate() {
+            let Ok(step) = self.scan.find_among(&[*tree], at) else {
+                return Err(AllocError);
+            };
+            match (step.stopped, self.role(index)) {
+                (Some(stopped), Some(Role::End)) => {
+                    self.leave_out(self.top.rule, true, error_of(stopped.limit))?;
+                }
+                (Some(stopped), Some(Role::Rule(rule))) => {
+                    self.leave_out(rule, false, error_of(stopped.limit))?;
+                }
+                _ => {}
+            }
         }
-        let Some(found) = step.found else {
-            return Ok(None);
-        };
-        match (self.top.role(found.index), self.top.order.get(found.index)) {
-            (Some(role), Some(tree)) => Ok(Some(Found {
-                role,
-                tree: *tree,
-                whole: found.whole,
-            })),
-            _ => Ok(None),
+        Ok(())
+    }
+
+    /// Closes the innermost regions whose rules are left out.
+    fn close(&mut self)
+        ensures { IsSame self.old self.new }
+    {
+        'regions: while self.omitted.has(self.top.rule) {
+            let Some(frame) = self.around.pop() else {
+                return;
+            };
+            self.top = frame;
         }
+    }
+
+    /// What a match is of, whose tree stands in this order.
+    fn next_of(
+        &mut self,
+        order: &[usize],
+        found: Option<TreeMatch<'t>>,
+    ) -> Result<Next<'t>, AllocError>
+        ensures { IsSame self.old self.new }
+    {
+        let Some(found) = found else {
+            return Ok(Next::Nothing);
+        };
+        let (Some(role), Some(tree)) = (self.role(found.index), order.get(found.index)) else {
+            return Ok(Next::Nothing);
+        };
+        let end = match role {
+            Role::End => None,
+            Role::Rule(rule) => {
+                let end = self.end_of(rule, *tree)?;
+                if self.omitted.has(rule) {
+                    return Ok(Next::LeftOut);
+                }
+                end
+            }
+        };
+        Ok(Next::Found(Found {
+            role,
+            tree: *tree,
+            whole: found.whole,
+            end,
+        }))
+    }
+
+    /// The next match of the end and the rules that are in force, or else the rules that are left out there.
+    fn find_next(&mut self) -> Result<Next<'t>, AllocError>
+        ensures { IsSame self.old self.new }
+    {
+        let at = self.writer.at();
+        let order = self.top.order(self.alloc, &self.omitted)?;
+        let Ok(step) = self.scan.find_among(&order, at) else {
+            return Err(AllocError);
+        };
+        if step.stopped.is_some() {
+            self.leave_out_stopped(&order)?;
+            return Ok(Next::LeftOut);
+        }
+        self.next_of(&order, step.found)
+    }
+
+    /// The next match: of the end and the rules that are in force the one that begins first, and of several that begin
+    /// there the one that is tried first. A rule that exceeds a limit there is left out, and so is its region if it is open.
+    fn find(&mut self) -> Result<Option<Found<'t>>, AllocError>
+        ensures { IsSame self.old self.new }
+    {
+        // Each iteration but the last leaves out one rule at least.
+        for _ in 0..=self.grammar.rules.len() {
+            self.close();
+            match self.find_next()? {
+                Next::Found(found) => return Ok(Some(found)),
+                Next::Nothing => return Ok(None),
+                Next::LeftOut => {}
+            }
+        }
+        Ok(None)
     }
 
     /// The region is open already, entered at this place by a begin that took nothing.
@@ -133,35 +236,15 @@ impl<'g, 'r, 't> Run<'g, 'r, 't> {
     }
 
     /// The number of the tree of an end that refers back, by its pattern.
-    fn tree_of_end(&mut self, pattern: &str) -> Result<usize, HighlightError>
-        ensures same { IsSame self.old self.new }
-        ensures told { IfErr result (IsToldIn self.old.writer.text.now) }
+    fn tree_of_end(&mut self, pattern: &str) -> Result<usize, Error>
+        ensures { IsSame self.old self.new }
     {
         if let Some(tree) = self.ends.get(pattern) {
             return Ok(*tree);
         }
-        let at = self.writer.at();
-        let tree = match read_pattern(self.alloc, pattern) {
-            Ok(tree) => tree,
-            Err(PatternError::Memory) => return Err(HighlightError::Memory),
-            Err(PatternError::Parse { at: byte, kind }) => {
-                return Err(HighlightError::End {
-                    at,
-                    fault: Fault::Pattern { at: byte, kind },
-                });
-            }
-        };
+        let tree = compile(self.alloc, pattern)?;
         let number = self.scan.tree_count();
-        match self.scan.add_tree(&tree, &SearchOptions::default(), None) {
-            Ok(()) => {}
-            Err(EngineError::Memory) => return Err(HighlightError::Memory),
-            Err(error) => {
-                return Err(HighlightError::End {
-                    at,
-                    fault: Fault::Refused(error),
-                });
-            }
-        }
+        self.scan.push(tree)?;
         self.ends
             .insert(String::from_str(self.alloc, pattern)?, number)?;
         Ok(number)
@@ -178,16 +261,25 @@ impl<'g, 'r, 't> Run<'g, 'r, 't> {
         }
     }
 
-    /// The number of the tree of the region's end.
-    fn end_of(&mut self, region: &Region, begin: usize) -> Result<usize, HighlightError>
-        ensures same { IsSame self.old self.new }
-        ensures told { IfErr result (IsToldIn self.old.writer.text.now) }
+    /// The number of the tree of the region's end that the rule with this number begins by its tree, if it begins one. If
+    /// the end is no pattern for what the begin matched, the rule is left out.
+    fn end_of(&mut self, rule: usize, tree: usize) -> Result<Option<usize>, AllocError>
+        ensures { IsSame self.old self.new }
     {
-        match &region.end {
-            End::Tree(tree) => Ok(*tree),
-            End::Refers(_) => {
-                let pattern = self.end_pattern(region, begin)?;
-                self.tree_of_end(pattern.as_str())
+        let grammar = self.grammar;
+        let Some(Rule::Region(region)) = grammar.rules.get(rule) else {
+            return Ok(None);
+        };
+        if let End::Tree(end) = &region.end {
+            return Ok(Some(*end));
+        }
+        let pattern = self.end_pattern(region, tree)?;
+        match self.tree_of_end(pattern.as_str()) {
+            Ok(end) => Ok(Some(end)),
+            Err(Error::Memory) => Err(AllocError),
+            Err(error) => {
+                self.leave_out(rule, true, error)?;
+                Ok(None)
             }
         }
     }
@@ -195,6 +287,7 @@ impl<'g, 'r, 't> Run<'g, 'r, 't> {
     /// Opens a region, in these scopes.
     fn enter(
         &mut self,
+        rule: usize,
         region: &'g Region,
         context: &'g Context,
         end: usize,
@@ -208,14 +301,14 @@ impl<'g, 'r, 't> Run<'g, 'r, 't> {
     {
         let inner = self.writer.enter(outer, &region.content_names)?;
         let frame = Frame {
+            rule,
             region: Some(region),
             context,
             end: if region.end_last {
-                EndPlace::Last
+                EndPlace::Last(end)
             } else {
-                EndPlace::First
+                EndPlace::First(end)
             },
-            order: with_end(self.alloc, &context.trees, end, region.end_last)?,
             entered,
             outer,
             inner,
@@ -255,13 +348,14 @@ impl<'g, 'r, 't> Run<'g, 'r, 't> {
     /// Writes a begin, and opens its region; but not where it takes nothing and is open there already.
     fn begin(
         &mut self,
+        rule: usize,
         region: &'g Region,
         context: &'g Context,
+        end: usize,
         whole: Match<'t>,
-    ) -> Result<Change, HighlightError>
+    ) -> Result<Change, AllocError>
         ensures goes_on { GoesOn self.old self.new }
         ensures changed { IfOk result (λ change. IsChanged change self.old self.new) }
-        ensures told { IfErr result (IsToldIn self.old.writer.text.now) }
     {
         let at = self.writer.at();
         let is_ahead = self.writer.is_ahead(whole.end());
@@ -270,9 +364,8 @@ impl<'g, 'r, 't> Run<'g, 'r, 't> {
         }
         let outer = self.writer.enter(self.top.inner, &region.names)?;
         self.write(region.begin, whole, &region.begin_captures, outer)?;
-        let end = self.end_of(region, region.begin)?;
         let entered = if is_ahead { None } else { Some(at) };
-        self.enter(region, context, end, entered, outer)?;
+        self.enter(rule, region, context, end, entered, outer)?;
         if !is_ahead {
             self.entered_here += 1;
         }
@@ -280,15 +373,14 @@ impl<'g, 'r, 't> Run<'g, 'r, 't> {
     }
 
     /// Writes an end, and closes its region; but not where both its begin and its end take nothing.
-    fn end(&mut self, tree: usize, whole: Match<'t>) -> Result<Change, HighlightError>
+    fn end(&mut self, tree: usize, whole: Match<'t>) -> Result<Change, AllocError>
         ensures goes_on { GoesOn self.old self.new }
         ensures changed { IfOk result (λ change. IsChanged change self.old self.new) }
-        ensures told { IfErr result (IsToldIn self.old.writer.text.now) }
     {
         let Some(region) = self.top.region else {
             return Ok(Change::Nothing);
         };
-        if self.top.is_entered_at(whole.end()) {
+        if self.is_top_entered_at(whole.end()) {
             return Ok(Change::Nothing);
         }
         self.write(tree, whole, &region.end_captures, self.top.outer)?;
@@ -302,10 +394,9 @@ impl<'g, 'r, 't> Run<'g, 'r, 't> {
     }
 
     /// Writes a match of a rule.
-    fn matched(&mut self, rule: &MatchRule, whole: Match<'t>) -> Result<Change, HighlightError>
+    fn matched(&mut self, rule: &MatchRule, whole: Match<'t>) -> Result<Change, AllocError>
         ensures goes_on { GoesOn self.old self.new }
         ensures changed { IfOk result (λ change. IsChanged change self.old self.new) }
-        ensures told { IfErr result (IsToldIn self.old.writer.text.now) }
     {
         let scope = self.writer.enter(self.top.inner, &rule.names)?;
         self.write(rule.tree, whole, &rule.captures, scope)?;
@@ -313,18 +404,21 @@ impl<'g, 'r, 't> Run<'g, 'r, 't> {
     }
 
     /// Writes a match, and opens or closes a region by it.
-    fn take(&mut self, found: Found<'t>) -> Result<Change, HighlightError>
+    fn take(&mut self, found: Found<'t>) -> Result<Change, AllocError>
         ensures goes_on { GoesOn self.old self.new }
         ensures changed { IfOk result (λ change. IsChanged change self.old self.new) }
-        ensures told { IfErr result (IsToldIn self.old.writer.text.now) }
     {
         let grammar = self.grammar;
         match found.role {
             Role::End => self.end(found.tree, found.whole),
-            Role::Rule(number) => match (grammar.rules.get(number), grammar.contexts.get(number)) {
-                (Some(Rule::Match(rule)), _) => self.matched(rule, found.whole),
-                (Some(Rule::Region(region)), Some(context)) => {
-                    self.begin(region, context, found.whole)
+            Role::Rule(number) => match (
+                grammar.rules.get(number),
+                grammar.contexts.get(number),
+                found.end,
+            ) {
+                (Some(Rule::Match(rule)), _, _) => self.matched(rule, found.whole),
+                (Some(Rule::Region(region)), Some(context), Some(end)) => {
+                    self.begin(number, region, context, end, found.whole)
                 }
                 _ => Ok(Change::Nothing),
             },
@@ -332,12 +426,11 @@ impl<'g, 'r, 't> Run<'g, 'r, 't> {
     }
 
     /// Goes on past the next match, or one character where it takes nothing and neither opens nor closes a region.
-    fn step(&mut self) -> Result<(), HighlightError>
+    fn step(&mut self) -> Result<(), AllocError>
         requires { self.old.writer.at < length self.old.writer.text.now }
         ensures grammar { self.new.grammar.now ≡ self.old.grammar.now }
         ensures within { self.new.writer.text.now ≡ self.old.writer.text.now }
         ensures fewer { OnOk result (steps_left self.new < steps_left self.old) }
-        ensures told { IfErr result (IsToldIn self.old.writer.text.now) }
     {
         let before = self.writer.at();
         let Some(found) = self.find()? else {
@@ -362,9 +455,10 @@ impl<'g, 'r, 't> Run<'g, 'r, 't> {
     }
 
     /// Goes on to the end of the text.
-    pub(crate) fn finish(mut self) -> Result<Highlights, HighlightError>
+    pub(crate) fn finish(mut self) -> Result<Highlights, AllocError>
         ensures covers { IfOk result (λ h. Covers self.entry.writer.text.now h.tokens.items) }
-        ensures told { IfErr result (IsToldIn self.entry.writer.text.now) }
+        ensures reported { IfOk result (λ h.
+            AreReported self.entry.writer.text.now h.left_out.items) }
     {
         let length = self.scan.text().len();
         'steps: while self.writer.at() < length {
@@ -374,7 +468,7 @@ impl<'g, 'r, 't> Run<'g, 'r, 't> {
         Ok(Highlights {
             tokens,
             scopes,
-            left_out: self.left_out,
+            left_out: self.omitted.into_reports(),
         })
     }
 }

@@ -7,10 +7,11 @@ use std::alloc::{AllocError, Global};
 
 /// A name within another scope.
 #[derive(Clone, Copy, Debug)]
-struct Scope {
-    outer: Option<usize>,
+pub struct Scope {
+    /// The scope that it is within, which has a lower number.
+    pub outer: Option<usize>,
     /// Which of the grammar's names it is.
-    name: usize,
+    pub name: usize,
 }
 
 /// The scopes of a text, each a name within another scope. The first is the grammar's own.
@@ -56,6 +57,13 @@ impl Scopes {
             scope = self.enter_one(Some(scope), *name)?;
         }
         Ok(scope)
+    }
+
+    /// All scopes, by their numbers.
+    pub fn as_slice(&self) -> &[Scope]
+        ensures { result.now ≡ scopes_in self.now }
+    {
+        &self.scopes
     }
 
     /// The numbers of a scope's names, the innermost first.

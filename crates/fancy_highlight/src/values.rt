@@ -4,6 +4,18 @@ use crate::error::{Fault, GrammarError};
 use serde_json::Value;
 use std::alloc::{AllocError, Global};
 
+/// What a value of JSON is.
+pub(crate) fn kind_of(value: &Value) -> &'static str {
+    match value {
+        Value::Null => "null",
+        Value::Bool(_) => "true or false",
+        Value::Number(_) => "a number",
+        Value::String(_) => "a text",
+        Value::Array(_) => "a list",
+        Value::Object(_) => "an object",
+    }
+}
+
 /// A part of the rules.
 #[derive(Drop)]
 pub(crate) struct Part<'v> {
@@ -47,6 +59,15 @@ impl<'v> Part<'v> {
 
     pub(crate) fn wanted(self, wanted: &'static str) -> GrammarError {
         self.fault(Fault::Wanted(wanted))
+    }
+
+    /// The `name` of the rule that it is; empty if it has none.
+    pub(crate) fn label(&self, alloc: Global) -> Result<String, AllocError> {
+        let name = match self.value.get("name") {
+            Some(name) => name.as_str(),
+            None => None,
+        };
+        String::from_str(alloc, name.unwrap_or(""))
     }
 
     /// The text that it is.

@@ -16,7 +16,7 @@ use Rattle.fancy_steps.specs.declared.search_limits.SearchLimit.{SearchLimit}
 use Rattle.fancy_steps.specs.declared.search_limits.SearchLimit.TheVariants as search
 use Rattle.fancy_search.specs.Searches.{IsCompiledFrom}
 use Rattle.fancy_search.specs.declared.search.Compiled.{Compiled}
-use Rattle.fancy_matches.specs.Listing.{Standing, backtracks_for, options_at}
+use Rattle.fancy_matches.specs.Listing.{Standing, backtracks_for, options_at, steps_for}
 use Rattle.fancy_matches.specs.Regexes as engine
 use Rattle.fancy_matches.proofs.Easy.{no_limit}
 use Rattle.fancy_replace.specs.Pieces.{as_limit}
@@ -31,7 +31,7 @@ use Rattle.fancy_host.specs.Hosted.{Answers, FindsFirst, IsNoSearch, IsNoText, I
 use Rattle.fancy_host.specs.Lists as list
 use Rattle.fancy_host.specs.Lists.{Fails, FindsAll, Form, Lists, Stops, Writes, listing}
 use Rattle.fancy_host.specs.Rewritten as rewritten
-use Rattle.fancy_host.specs.Rewritten.{FailsToRewrite, Replaces, ReplacesIn, WritesWhole}
+use Rattle.fancy_host.specs.Rewritten.{FailsToRewrite, Replaces, ReplacesIn, WritesNew}
 use Rattle.fancy_host.specs.Whether as whether
 use Rattle.fancy_host.specs.Whether.{FindsAny, Tells}
 
@@ -106,19 +106,22 @@ module _ (text : List ℕ) (o : FancyOptions) (i : Input) (easy : IsFalse (is_ro
   allowed : backtracks_for (given_backtracks o) text ≡ backtracks_for None text
   allowed = ap (λ asked. backtracks_for asked text) none.0
 
+  stepped : steps_for o.step_limit text ≡ steps_for (2 ^ 64 - 1) text
+  stepped = ap (λ asked. steps_for asked text) none.1
+
   answered_code : (c : Compiled) → IsCompiledFrom i c → (passed : Option SearchLimit) (answer : Result (Option (Vec ℕ Global)) Error) →
       IsPromised c text o answer → is_run (outcome_of text passed answer).code ≡ false
   unfolding is_run
   answered_code c from passed (Ok None) h = refl
   answered_code c from passed (Ok (Some numbers)) h = refl
-  answered_code c from passed (Err e) h = failure_code passed e (no_limit i text (running o text) small allowed none.1 e easy (h i from).1)
+  answered_code c from passed (Err e) h = failure_code passed e (no_limit i text (running o text) small allowed stepped e easy (h i from).1)
 
   told_code : (c : Compiled) → IsCompiledFrom i c → (passed : Option SearchLimit) (answer : Result (Option (Vec ℕ Global)) Error) →
       IsPromised c text o answer → is_run (whether.whether passed answer).code ≡ false
   unfolding is_run
   told_code c from passed (Ok None) h = refl
   told_code c from passed (Ok (Some numbers)) h = refl
-  told_code c from passed (Err e) h = failure_code passed e (no_limit i text (running o text) small allowed none.1 e easy (h i from).1)
+  told_code c from passed (Err e) h = failure_code passed e (no_limit i text (running o text) small allowed stepped e easy (h i from).1)
 
   answers_code : {t : CompiledTree} {passed : Option SearchLimit} {old new : List ℕ} {outcome : FancyOutcome} → IsCompiledFrom i (compiled_of t) →
       Answers t text o passed old new outcome → is_run outcome.code ≡ false
@@ -136,7 +139,7 @@ module _ (text : List ℕ) (o : FancyOptions) (i : Input) (easy : IsFalse (is_ro
   list_code : (s : Standing) (passed : Option SearchLimit) (e : Error) → engine.FailsAt i text (listing o text) s e →
       is_run (failure_by passed e).code ≡ false
   list_code s passed e h =
-      failure_code passed e (no_limit i text (options_at (listing o text) s) small allowed none.1 e easy h.bounds)
+      failure_code passed e (no_limit i text (options_at (listing o text) s) small allowed stepped e easy h.bounds)
 
   stops_code : {form : Form} {width : ℕ} {c : Compiled} (passed : Option SearchLimit) {room : ℕ} {from to : Standing} {rows : List (List ℕ)}
       {outcome : FancyOutcome} → IsCompiledFrom i c → Stops form width c text (listing o text) passed room from rows to outcome →
@@ -157,10 +160,10 @@ module _ (text : List ℕ) (o : FancyOptions) (i : Input) (easy : IsFalse (is_ro
   lists_code of (list.does_not_fit not) = refl
   lists_code of (list.listed fits rows) = writes_code of rows
 
-  whole_code : {new old after : List ℕ} {outcome : FancyOutcome} → WritesWhole new old after outcome → is_run outcome.code ≡ false
+  new_code : {new old after : List ℕ} {outcome : FancyOutcome} → WritesNew new old after outcome → is_run outcome.code ≡ false
   unfolding is_run
-  whole_code (rewritten.written less) = refl
-  whole_code (rewritten.has_no_room most) = refl
+  new_code (rewritten.written less) = refl
+  new_code (rewritten.has_no_room most) = refl
 
   rewrite_code : (t : CompiledTree) (passed : Option SearchLimit) (limit : Option ℕ) (e : Error) → IsCompiledFrom i (compiled_of t) →
       FailsToRewrite (compiled_of t) text (listing o text) limit e → is_run (failure_by passed e).code ≡ false
@@ -174,7 +177,7 @@ module _ (text : List ℕ) (o : FancyOptions) (i : Input) (easy : IsFalse (is_ro
       is_run outcome.code ≡ false
   unfolding is_run
   replaces_code t passed limit of (rewritten.does_not_fit not) = refl
-  replaces_code t passed limit of (rewritten.replaced fits new is whole none) = whole_code whole
+  replaces_code t passed limit of (rewritten.replaced fits new is whole none) = new_code whole
   replaces_code t passed limit of (rewritten.fails fits e fails ends) = rewrite_code t passed (as_limit limit) e of fails
 
 -- ---- the calls

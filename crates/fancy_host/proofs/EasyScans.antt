@@ -1,6 +1,5 @@
 -- No scan for easy trees tells of a limit of backtracks, branches or instructions that nobody set.
 use Rattle.std.proofs.Common.{◌≡◌, ◌≢◌, ℕ, zero, suc, ◌+◌, ◌*◌, ◌<◌, ◌≤◌, ◌^◌, false, All, List, [], ◌∷◌, ◌++◌, length, drop, get_or, slice_get, IsSome, Option, Some, None, Ok, refl, sym, ap, ◌∙◌, arith, length-append}
-use Rattle.std.specs.Str.Lossy.{utf8_valid_len}
 use Rattle.std.proofs.Math.Nat.{le-min}
 use Rattle.std.proofs.lemmas.Bool.{true≢false}
 use Rattle.std.proofs.lemmas.List.{get_or_append_left, get_or-append-add}
@@ -15,10 +14,11 @@ use Rattle.fancy_scanner.specs.declared.scanner.Scan.{Scan}
 use Rattle.fancy_scanner.specs.declared.scanner.Scanner.{Scanner}
 use Rattle.fancy_scanner.specs.declared.scanner.Stopped.{Stopped}
 use Rattle.fancy_scanner.proofs.Rules.{easy_by_delegates}
+use Rattle.fancy_host.specs.declared.options.FancyOptions.{FancyOptions}
 use Rattle.fancy_host.specs.declared.outcome.FancyOutcome.{FancyOutcome}
 use Rattle.fancy_host.specs.Codes.{code_of_run, code_of_scan_limit}
 use Rattle.fancy_host.specs.Easy.{AreNoLimitRows, IsNoLimit, IsNoLimitWhereAllEasy}
-use Rattle.fancy_host.specs.Hosted.{not_utf8, over}
+use Rattle.fancy_host.specs.Hosted.{IsNoText, has_another_size, is_no_text, over}
 use Rattle.fancy_host.specs.Lists.{numbers_of}
 use Rattle.fancy_host.specs.Scanned as rows_of
 use Rattle.fancy_host.specs.Scanned.{ComesTo, ScansIn, Stops, Writes, of_none, row_of, stopped_numbers, width_of}
@@ -44,9 +44,11 @@ unfolding is_run
 none_code None by = refl
 none_code (Some s) by = limit_code s.limit by
 
-bytes_code : (byte : ℕ) → is_run (not_utf8 byte).code ≡ false
+no_text_code : {text : List ℕ} {o : FancyOptions} {outcome : FancyOutcome} → IsNoText text o outcome →
+    (is_run outcome.code ≡ false) × (outcome.count ≡ 0)
 unfolding is_run
-bytes_code byte = refl
+no_text_code (has_another_size not) = (refl, refl)
+no_text_code (is_no_text size bad) = (refl, refl)
 
 -- ---- rows
 
@@ -134,7 +136,10 @@ module _ (rules : List Rule) (text : List ℕ) (easy : AreEasyRuns text rules) (
   writes_easy {groups} (rows_of.writes rows wide room comes stops) =
       (no_run _ (stops_code stops), quiet_rows (width_of groups) (three_at_least groups) groups refl rows wide (comes_quiet comes) _ room)
 
-pub scan_easy : (text : List ℕ) {groups from to : ℕ} {old new : List ℕ} {held : Option Scanner} {outcome : FancyOutcome} →
-    ScansIn text groups from old held to new outcome → IsNoLimitWhereAllEasy held text groups new outcome
-scan_easy text (rows_of.in_no_utf8 bad) rules held easy small = (no_run _ (bytes_code (utf8_valid_len text)), λ k limit lt same. absurd (omega (arith, lt)))
-scan_easy text (rows_of.scanned utf8 h) rules held easy small = writes_easy rules text easy small (h rules held)
+pub scan_easy : (text : List ℕ) (o : FancyOptions) {groups from to : ℕ} {old new : List ℕ} {held : Option Scanner} {outcome : FancyOutcome} →
+    ScansIn text o groups from old held to new outcome → IsNoLimitWhereAllEasy held text groups new outcome
+scan_easy text o (rows_of.unscanned no) rules held easy small =
+    let code = no_text_code no in
+    let none = code.1 in
+    (no_run _ code.0, λ k limit lt same. absurd (omega (arith, lt, none)))
+scan_easy text o (rows_of.scanned size utf8 h) rules held easy small = writes_easy rules text easy small (h rules held)

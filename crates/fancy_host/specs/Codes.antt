@@ -40,8 +40,8 @@ wrong_size = 39
 abbrev pub no_room : ℕ
 no_room = 40
 
-abbrev pub too_many_lookups : ℕ
-too_many_lookups = 43
+abbrev pub analysis_limit_exceeded : ℕ
+analysis_limit_exceeded = 43
 
 abbrev pub code_of_refusal : CompileError → ℕ
 code_of_refusal refusal.NamedBackrefOnly = 10

@@ -26,7 +26,7 @@ use Rattle.fancy_expr.specs.declared.error.CompileError.TheVariants as refusal
 use Rattle.fancy_expr.specs.declared.expr.ExprTree.{ExprTree}
 use Rattle.fancy_expr.specs.Sound.{IsWellFormedTree}
 use Rattle.fancy_expr.specs.Views as views
-use Rattle.fancy_analysis.specs.Lookups.{size_lookups}
+use Rattle.fancy_analysis.specs.AnalysisLimit.{analysis_nodes}
 use Rattle.fancy_analysis.specs.Names as analysis_names
 use Rattle.fancy_info.specs.declared.context.AnalyzeContext.{AnalyzeContext}
 use Rattle.fancy_compile.specs.declared.options.CompileOptions.{CompileOptions}
@@ -46,7 +46,7 @@ use Rattle.fancy_host.specs.declared.options.FancyOptions.{FancyOptions}
 use Rattle.fancy_host.specs.declared.outcome.FancyOutcome.{FancyOutcome}
 use Rattle.fancy_host.specs.declared.searches.Searcher.{Searcher}
 use Rattle.fancy_host.specs.declared.tree.CompiledTree.{CompiledTree}
-use Rattle.fancy_host.specs.Codes.{ok, no_match, no_program, no_text, unfit, memory, too_deep, wrong_size, too_many_lookups, code_of, code_of_kind, code_of_limit}
+use Rattle.fancy_host.specs.Codes.{ok, no_match, no_program, no_text, unfit, memory, too_deep, wrong_size, analysis_limit_exceeded, code_of, code_of_kind, code_of_limit}
 
 -- ---- options
 
@@ -78,15 +78,20 @@ default_options = record {
   swap_greed = false;
   oniguruma = false;
   named_groups_only = false;
-  visit_limit = 100_000_000;
+  text_is_utf8 = false;
+  visit_limit = 20_000_000;
   memory_limit = 2 ^ 28;
-  analysis_limit = 20_000_000;
+  analysis_limit = 5_000_000;
   reserved = record { first = 0 };
 }
 
 -- they have the size that the library gives them
 abbrev pub has_size : FancyOptions → Bool
 has_size o = o.size == options_size
+
+-- what a host says of the text of a search: where it answers for it, it is UTF-8
+abbrev pub AnswersFor : FancyOptions → List ℕ → Type 0
+AnswersFor o text = IsTrue (has_size o) → IsTrue o.text_is_utf8 → IsUtf8 text
 
 -- how a pattern is read
 abbrev pub parsing : FancyOptions → ParseOptions
@@ -257,15 +262,20 @@ IsRead (pattern text) o t = spelling.IsTreeOf (parsing o) (chars text) t × IsWe
 abbrev pub asked_of : ExprTree → FancyOptions → Input
 asked_of t o = input_of t (analysis o) (compilation o)
 
--- the analysis of the tree looks up sizes of groups more often than the limit allows; 0 is no limit
-pub record PassesAnalysisLimit (tree : ExprTree) (o : FancyOptions) : Type 0 where
+-- the analysis of the tree looks at more nodes in rounds that change something than the limit allows; 0 is no limit
+pub record ExceedsAnalysisLimit (tree : ExprTree) (o : FancyOptions) : Type 0 where
   pub is_given : o.analysis_limit ≢ 0
-  pub is_passed : o.analysis_limit < size_lookups tree
+  pub is_exceeded : o.analysis_limit < analysis_nodes tree
+
+-- why a tree is not compiled: its analysis exceeds the limit, or memory was wanted to count it
+pub data IsUnanalysed (tree : ExprTree) (o : FancyOptions) : FancyOutcome → Type 0 where
+  exceeds_limit : ExceedsAnalysisLimit tree o → IsUnanalysed tree o (coded analysis_limit_exceeded)
+  lacks_memory : IsUnanalysed tree o (coded memory)
 
 -- it was compiled from the tree, which stands within the limits of the options, and has the names of its groups
 pub record IsMadeOf (tree : ExprTree) (o : FancyOptions) (t : CompiledTree) : Type 0 where
   pub from : IsCompiledFrom (asked_of tree o) (compiled_of t)
-  pub analysed_within : ¬ PassesAnalysisLimit tree o
+  pub analysed_within : ¬ ExceedsAnalysisLimit tree o
   pub within : ¬ IsNestedOver (asked_of tree o) (Some o.max_nesting)
   pub names : names_of t ≡ (views.parsed_of tree).named_groups
 
@@ -275,16 +285,16 @@ pub record IsMadeFrom (source : Source) (o : FancyOptions) (t : CompiledTree) : 
   pub read : IsRead source o tree
   pub made : IsMadeOf tree o t
 
--- No tree is spelled; the tree that is spelled passes the limit of the analysis; it stands within that limit, and is
+-- No tree is spelled; the analysis of the tree that is spelled exceeds its limit; it stands within that limit, and is
 -- refused; or memory was.
 pub data FailsToCompile (o : FancyOptions) : Source → FancyOutcome → Type 0 where
   unread : {text : List ℕ} (e : Error) → IsFault (length text) (tokens_of text) e →
       FailsToCompile o (notation text) (failure e)
   unspelled : {text : List ℕ} (e : PatternError) → spelling.IsError (parsing o) (chars text) e →
       FailsToCompile o (pattern text) (pattern_failure e)
-  passes_analysis_limit : {source : Source} (t : ExprTree) → IsRead source o t → PassesAnalysisLimit t o →
-      FailsToCompile o source (coded too_many_lookups)
-  refused : {source : Source} (t : ExprTree) (e : Error) → IsRead source o t → ¬ PassesAnalysisLimit t o →
+  unanalysed : {source : Source} {outcome : FancyOutcome} (t : ExprTree) → IsRead source o t → IsUnanalysed t o outcome →
+      FailsToCompile o source outcome
+  refused : {source : Source} (t : ExprTree) (e : Error) → IsRead source o t → ¬ ExceedsAnalysisLimit t o →
       IsRefusedAs (asked_of t o) (Some o.max_nesting) e → FailsToCompile o source (failure e)
 
 -- Whether it nests as the options allow: a pattern is bounded where it is read.

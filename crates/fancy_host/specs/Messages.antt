@@ -12,8 +12,8 @@ use Rattle.fancy_search.specs.declared.search.Compiled.{Compiled}
 use Rattle.fancy_search.specs.Searches.{IsCompiledFrom, IsNestedOver, IsRefusedAs}
 use Rattle.fancy_host.specs.declared.options.FancyOptions.{FancyOptions}
 use Rattle.fancy_host.specs.declared.outcome.FancyOutcome.{FancyOutcome}
-use Rattle.fancy_host.specs.Codes.{memory, too_many_lookups}
-use Rattle.fancy_host.specs.Hosted.{IsNoText, IsRead, PassesAnalysisLimit, asked_of, coded, ended, failure, has_size, parsing, pattern, pattern_failure}
+use Rattle.fancy_host.specs.Codes.{memory}
+use Rattle.fancy_host.specs.Hosted.{ExceedsAnalysisLimit, IsNoText, IsRead, IsUnanalysed, asked_of, ended, failure, has_size, parsing, pattern, pattern_failure}
 
 -- the sentence of each code, from 0 up
 abbrev pub sentences : List (List ℕ)
@@ -23,7 +23,7 @@ sentences =
     ∷ codes "nothing was compiled"
     ∷ codes "the bytes are no UTF-8"
     ∷ codes "the options do not fit the text, or what was compiled"
-    ∷ codes "memory ran out"
+    ∷ codes "out of memory"
     ∷ codes "the tree cannot be read"
     ∷ codes "too many branches failed"
     ∷ codes "too many branches were held"
@@ -41,27 +41,27 @@ sentences =
     ∷ codes "the program is too big"
     ∷ codes "parentheses nest deeper than the limit"
     ∷ codes "the tree nests deeper than the limit"
-    ∷ codes "a parenthesis is not closed: `)` is wanted"
-    ∷ codes "a `)` closes no parenthesis"
-    ∷ codes "the counts of a loop are out of order or too large: the first is to be at most the second"
-    ∷ codes "a backslash ends the pattern: a character is wanted behind it"
-    ∷ codes "no escape has this letter"
+    ∷ codes "a parenthesis is not closed: expected `)`"
+    ∷ codes "this `)` closes no parenthesis"
+    ∷ codes "the counts of a repetition are out of order or too large"
+    ∷ codes "the pattern ends with a backslash: expected a character after it"
+    ∷ codes "there is no escape with this letter"
     ∷ codes "a property has no name, or its `}` is missing"
-    ∷ codes "a hexadecimal digit is wanted, or the `}` behind one to eight of them"
-    ∷ codes "no character has this number"
-    ∷ codes "a class is not closed: `]` is wanted"
-    ∷ codes "no flag stands here: one of `imsxRUu` is wanted"
+    ∷ codes "expected a hexadecimal digit, or `}` after one to eight of them"
+    ∷ codes "there is no character with this number"
+    ∷ codes "a class is not closed: expected `]`"
+    ∷ codes "this is not a flag: expected one of `imsxRUu`"
     ∷ codes "the flag `u` cannot be cleared"
-    ∷ codes "this names no group: a letter or `_` is wanted, or a number, and what closes it"
-    ∷ codes "several groups have this name, so it cannot be called, or more than 100, so it cannot be referred to"
+    ∷ codes "this is not a group name: expected a letter, `_` or a number, and then what closes it"
+    ∷ codes "several groups have this name, so it cannot be called, or more than 100 have it, so it cannot be referred to"
     ∷ codes "the number is too large"
-    ∷ codes "a quantifier follows nothing that can be repeated"
-    ∷ codes "no verb goes on here, or there are more than a million groups"
+    ∷ codes "there is nothing to repeat before this quantifier"
+    ∷ codes "this is not a verb, or there are more than a million groups"
     ∷ codes "the options have the size of another version"
     ∷ codes "there is no room for the text"
     ∷ codes "too many states were visited"
     ∷ codes "too much memory was held"
-    ∷ codes "the groups refer to one another too often"
+    ∷ codes "the analysis of the pattern exceeds its limit"
     ∷ []
 
 abbrev pub sentence_of : ℕ → List ℕ
@@ -95,12 +95,12 @@ pub data Explains (bytes : List ℕ) (o : FancyOptions) : List ℕ → Type 0 wh
   spells_no_text : {outcome : FancyOutcome} → IsNoText bytes o outcome → Explains bytes o (message outcome)
   unspelled : IsTrue (has_size o) → IsUtf8 bytes → (e : PatternError) → spelling.IsError (parsing o) (chars bytes) e →
       Explains bytes o (message (pattern_failure e))
-  passes_analysis_limit : IsTrue (has_size o) → IsUtf8 bytes → (t : ExprTree) → IsRead (pattern bytes) o t →
-      PassesAnalysisLimit t o → Explains bytes o (message (coded too_many_lookups))
+  unanalysed : {outcome : FancyOutcome} → IsTrue (has_size o) → IsUtf8 bytes → (t : ExprTree) → IsRead (pattern bytes) o t →
+      IsUnanalysed t o outcome → Explains bytes o (message outcome)
   refused : IsTrue (has_size o) → IsUtf8 bytes → (t : ExprTree) (e : Error) → IsRead (pattern bytes) o t →
-      ¬ PassesAnalysisLimit t o → IsRefusedAs (asked_of t o) (Some o.max_nesting) e → Explains bytes o (explanation e)
+      ¬ ExceedsAnalysisLimit t o → IsRefusedAs (asked_of t o) (Some o.max_nesting) e → Explains bytes o (explanation e)
   has_program : IsTrue (has_size o) → IsUtf8 bytes → (t : ExprTree) (c : Compiled) → IsRead (pattern bytes) o t →
-      ¬ PassesAnalysisLimit t o → IsCompiledFrom (asked_of t o) c → ¬ IsNestedOver (asked_of t o) (Some o.max_nesting) →
+      ¬ ExceedsAnalysisLimit t o → IsCompiledFrom (asked_of t o) c → ¬ IsNestedOver (asked_of t o) (Some o.max_nesting) →
       Explains bytes o []
 
 -- A text that is right, or that memory for it ran out, is written over what is there, and so many bytes are all of it.

@@ -1,5 +1,5 @@
 -- What a host is answered that asks for a text with matches replaced.
-use Rattle.std.specs.Prelude.{◌≡◌, ◌≤◌, ◌<◌, ◌==◌, ◌⊎◌, ℕ, Bool, IsFalse, IsTrue, IsUtf8, List, length, Option, None, Some, if◌then◌else◌}
+use Rattle.std.specs.Prelude.{◌≡◌, ◌≤◌, ◌<◌, ◌-◌, ◌==◌, ◌⊎◌, ℕ, Bool, IsFalse, IsTrue, IsUtf8, List, length, min, Option, None, Some, if◌then◌else◌}
 use Rattle.std.specs.Str.Lossy.{utf8_valid_len}
 use Rattle.fancy_meaning.specs.Numbers.{usize_max}
 use Rattle.fancy_meaning.specs.Options.{RunOptions}
@@ -10,9 +10,11 @@ use Rattle.fancy_search.specs.declared.search.Compiled.{Compiled}
 use Rattle.fancy_search.specs.Searches.{IsCompiledFrom}
 use Rattle.fancy_steps.specs.SearchLimits.{EndsBy}
 use Rattle.fancy_steps.specs.declared.search_limits.SearchLimit.{SearchLimit}
+use Rattle.fancy_replace.specs.Outputs.{Holds}
 use Rattle.fancy_replace.specs.Pieces.{as_limit, rewrite}
 use Rattle.fancy_replace.specs.Reading.{expansion}
 use Rattle.fancy_replace.specs.Replacements.{FailsAfter, to_replace}
+use Rattle.fancy_replace.specs.declared.output.BoundedText.{BoundedText}
 use Rattle.fancy_host.specs.declared.options.FancyOptions.{FancyOptions}
 use Rattle.fancy_host.specs.declared.outcome.FancyOutcome.{FancyOutcome}
 use Rattle.fancy_host.specs.declared.tree.CompiledTree.{CompiledTree}
@@ -41,11 +43,22 @@ module _ (c : Compiled) (text : List ℕ) (o : RunOptions) (limit : Option ℕ) 
   abbrev pub FailsToRewrite : Error → Type 0
   FailsToRewrite e = ((i : Input) → IsCompiledFrom i c → FailsAfter i o text limit e) ⊎ (e ≡ Memory)
 
--- what is written of a text that has to be whole, and the outcome: there is no room exactly where it does not fit with the
--- zero at its end, and it has so many bytes either way
-pub data WritesWhole (new old : List ℕ) : List ℕ → FancyOutcome → Type 0 where
-  written : length new < length old → WritesWhole new old (ended new old) (with_count (length new) (coded ok))
-  has_no_room : length old ≤ length new → WritesWhole new old old (with_count (length new) (coded no_room))
+  -- as much of that text is kept as there is room for so many bytes, and all of its bytes are counted
+  pub record HoldsRewritten (write : List ℕ → List ℕ → List ℕ) (room : ℕ) (kept : BoundedText) : Type 0 where
+    pub new : List ℕ
+    pub is : IsRewritten write new
+    pub holds : Holds kept room new
+
+-- for how many bytes of a text there is room with a zero at its end
+abbrev pub text_room : List ℕ → ℕ
+text_room old = length old - 1
+
+-- What is written of a new text, and the outcome: as much as there is room for, with a zero at its end, and how many bytes
+-- all of it has. There is room exactly where it fits with the zero.
+pub data WritesNew (new old : List ℕ) : List ℕ → FancyOutcome → Type 0 where
+  written : length new < length old → WritesNew new old (ended new old) (with_count (length new) (coded ok))
+  has_no_room : length old ≤ length new →
+      WritesNew new old (ended new old) (with_count (min usize_max (length new)) (coded no_room))
 
 -- What a program writes of the new text, and the outcome, where the delegates of the last search passed this limit, or
 -- none: it is unfit exactly where the options do not fit the program, and a limit of the delegates is told exactly where it
@@ -54,7 +67,7 @@ pub data Replaces (t : CompiledTree) (text : List ℕ) (o : FancyOptions) (passe
     (write : List ℕ → List ℕ → List ℕ) (old : List ℕ) : List ℕ → FancyOutcome → Type 0 where
   does_not_fit : IsFalse (list_fits t text o) → Replaces t text o passed limit write old old (coded unfit)
   replaced : {after : List ℕ} {outcome : FancyOutcome} → IsTrue (list_fits t text o) → (new : List ℕ) →
-      IsRewritten (compiled_of t) text (listing o text) (as_limit limit) write new → WritesWhole new old after outcome →
+      IsRewritten (compiled_of t) text (listing o text) (as_limit limit) write new → WritesNew new old after outcome →
       passed ≡ None → Replaces t text o passed limit write old after outcome
   fails : IsTrue (list_fits t text o) → (e : Error) →
       FailsToRewrite (compiled_of t) text (listing o text) (as_limit limit) e → EndsBy e passed →

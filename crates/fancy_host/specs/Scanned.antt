@@ -19,7 +19,7 @@ use Rattle.fancy_scanner.specs.declared.scanner.Stopped.{Stopped}
 use Rattle.fancy_host.specs.declared.options.FancyOptions.{FancyOptions}
 use Rattle.fancy_host.specs.declared.outcome.FancyOutcome.{FancyOutcome}
 use Rattle.fancy_host.specs.Codes.{ok, no_match, code_of_scan_limit}
-use Rattle.fancy_host.specs.Hosted.{FailsToCompile, IsNoText, IsRead, PassesAnalysisLimit, asked_of, coded, compiled, failure, has_size, limits, next_start, not_utf8, over, pattern, with_count}
+use Rattle.fancy_host.specs.Hosted.{ExceedsAnalysisLimit, FailsToCompile, IsNoText, IsRead, asked_of, coded, compiled, failure, has_size, limits, next_start, not_utf8, over, pattern, with_count}
 use Rattle.fancy_host.specs.Lists.{listing, numbers_of}
 
 -- ---- patterns
@@ -58,7 +58,7 @@ pub record IsRuleFrom (bytes : List ℕ) (o : FancyOptions) (x : ScanTree) (grou
   pub utf8 : IsUtf8 bytes
   pub tree : ExprTree
   pub read : IsRead (pattern bytes) o tree
-  pub analysed_within : ¬ PassesAnalysisLimit tree o
+  pub analysed_within : ¬ ExceedsAnalysisLimit tree o
   pub made : (text : List ℕ) → IsTreeOf (rule_for tree o text) text x
   pub counts : groups ≡ groups_in tree
 
@@ -66,7 +66,7 @@ pub record IsRuleFrom (bytes : List ℕ) (o : FancyOptions) (x : ScanTree) (grou
 pub data Adds (bytes : List ℕ) (o : FancyOptions) (s : Option Scanner) : Option Scanner → FancyOutcome → Type 0 where
   keeps : {t : Option Scanner} {outcome : FancyOutcome} → FailsToRead bytes o outcome → HoldsSame s t → Adds bytes o s t outcome
   holds : {t : Option Scanner} (tree : ExprTree) → IsTrue (has_size o) → IsUtf8 bytes → IsRead (pattern bytes) o tree →
-      ¬ PassesAnalysisLimit tree o → HoldsMore tree o s t → Adds bytes o s t (compiled (groups_in tree))
+      ¬ ExceedsAnalysisLimit tree o → HoldsMore tree o s t → Adds bytes o s t (compiled (groups_in tree))
 
 -- ---- a row
 
@@ -126,9 +126,9 @@ module _ (rules : List Rule) (text : List ℕ) (groups : ℕ) where
         Writes from old to (over (numbers_of rows) old) (with_count (length rows) outcome)
 
 -- what is written by a scanner, or by nothing, in bytes that may be no text
-pub data ScansIn (text : List ℕ) (groups : ℕ) (from : ℕ) (old : List ℕ) (held : Option Scanner) :
+pub data ScansIn (text : List ℕ) (o : FancyOptions) (groups : ℕ) (from : ℕ) (old : List ℕ) (held : Option Scanner) :
     ℕ → List ℕ → FancyOutcome → Type 0 where
-  in_no_utf8 : ¬ IsUtf8 text → ScansIn text groups from old held from old (not_utf8 (utf8_valid_len text))
-  scanned : {to : ℕ} {new : List ℕ} {outcome : FancyOutcome} → IsUtf8 text →
+  unscanned : {outcome : FancyOutcome} → IsNoText text o outcome → ScansIn text o groups from old held from old outcome
+  scanned : {to : ℕ} {new : List ℕ} {outcome : FancyOutcome} → IsTrue (has_size o) → IsUtf8 text →
       ((rules : List Rule) → IsHeldBy rules text held → Writes rules text groups from old to new outcome) →
-      ScansIn text groups from old held to new outcome
+      ScansIn text o groups from old held to new outcome

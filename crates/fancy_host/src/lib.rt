@@ -21,7 +21,7 @@ mod writing;
 ghost use Rattle.std.specs.Prelude.{◌≡◌, None, codes, length};
 ghost use Rattle.fancy_host.specs.Codes.{name_of};
 ghost use Rattle.fancy_host.specs.Easy.{IsNoLimitWhereAllEasy, IsNoLimitWhereEasy};
-ghost use Rattle.fancy_host.specs.Hosted.{Clones, Compiles, FindsFirst, default_options, ended, group_count, tree_of};
+ghost use Rattle.fancy_host.specs.Hosted.{AnswersFor, Clones, Compiles, FindsFirst, default_options, ended, group_count, tree_of};
 ghost use Rattle.fancy_host.specs.Hosted as hosted;
 ghost use Rattle.fancy_host.specs.Lists.{FindsAll, all_groups, span_alone};
 ghost use Rattle.fancy_host.specs.Messages.{Explains, IsMessage, WritesText};
@@ -35,7 +35,7 @@ use messages::{write_explanation, write_message};
 use options::FancyOptions;
 use outcome::{FancyOutcome, MEMORY, NO_PROGRAM, write_name};
 use program::FancyProgram;
-use reading::{compile_notation, compile_pattern, searched};
+use reading::{compile_notation, compile_pattern, searched, searched_text};
 use scanner::FancyScanner;
 use scans::{compile_rule, scan};
 use standing::FancyStanding;
@@ -43,13 +43,13 @@ use std::alloc::Global;
 use std::str::from_utf8;
 use writing::{write_over, write_text};
 
-/// The options of a search unless said otherwise: from the text's start, no flag, no limit of backtracks given, as many
-/// instructions as can be counted, a program of at most 100,000 instructions, a tree of at most 250 levels, whose analysis
-/// looks up at most 20,000,000 sizes of groups, and at most 500 nodes written out in one another, for which a stack of
-/// 2 MB was enough.
+/// The options of a search unless said otherwise: from the text's start, no flag, no limits of backtracks and instructions
+/// given, a program of at most 100,000 instructions, a tree of at most 250 levels, whose analysis looks at 5,000,000 nodes
+/// at most, and at most 500 nodes written out in one another, for which a stack of 2 MB was enough.
 ///
-/// Where no limit of backtracks is given, a search may fall back to a branch 1,000,000 times, and once more for each byte
-/// of the text and for its end: a search for an easy tree never stops at that.
+/// Where these limits are not given, a search may fall back to a branch 20,000,000 times and execute 100,000,000
+/// instructions, and once more, or eight more, for each byte of the text and for its end: a search for an easy tree never
+/// stops at them.
 #[unsafe(no_mangle)]
 pub extern "C" fn fancy_default_options() -> FancyOptions
     ensures { result ≡ default_options }
@@ -60,10 +60,10 @@ pub extern "C" fn fancy_default_options() -> FancyOptions
 /// Writes the version of the library, and answers how many bytes it has.
 #[unsafe(no_mangle)]
 pub extern "C" fn fancy_version(version: &mut [u8]) -> usize
-    ensures length { result ≡ length (codes "0.3.0") }
-    ensures version { version.new ≡ ended (codes "0.3.0") version.old }
+    ensures length { result ≡ length (codes "0.4.0") }
+    ensures version { version.new ≡ ended (codes "0.4.0") version.old }
 {
-    write_text("0.3.0".as_bytes(), version)
+    write_text("0.4.0".as_bytes(), version)
 }
 
 /// Compiles a pattern. What the program held before is freed; it holds the pattern if the code is `FANCY_OK`, and nothing
@@ -87,7 +87,7 @@ pub extern "C" fn fancy_compile_pattern(
 
 /// Compiles the tree that a text in the notation spells. What the program held before is freed; it holds the tree if the
 /// code is `FANCY_OK`, and nothing otherwise. A tree that nests deeper than `max_depth` is refused before it is read. One
-/// whose groups refer to one another more often than `analysis_limit` allows is refused before it is analysed, and one
+/// whose analysis exceeds `analysis_limit` is refused before it is analysed, and one
 /// whose nodes are written out in one another deeper than `max_nesting` while it is compiled.
 #[unsafe(no_mangle)]
 pub extern "C" fn fancy_compile(
@@ -140,6 +140,7 @@ pub extern "C" fn fancy_is_match(
     text: &[u8],
     options: &FancyOptions,
 ) -> FancyOutcome
+    requires answers_for { AnswersFor options.now text.now }
     ensures finds { FindsAny
         text.now
         options.now
@@ -170,6 +171,7 @@ pub extern "C" fn fancy_find(
     options: &FancyOptions,
     spans: &mut [usize],
 ) -> FancyOutcome
+    requires answers_for { AnswersFor options.now text.now }
     ensures finds { FindsFirst
         text.now
         options.now
@@ -206,6 +208,7 @@ pub extern "C" fn fancy_find_all(
     standing: &mut FancyStanding,
     spans: &mut [usize],
 ) -> FancyOutcome
+    requires answers_for { AnswersFor options.now text.now }
     ensures finds { FindsAll
         span_alone
         text.now
@@ -242,6 +245,7 @@ pub extern "C" fn fancy_captures_all(
     standing: &mut FancyStanding,
     spans: &mut [usize],
 ) -> FancyOutcome
+    requires answers_for { AnswersFor options.now text.now }
     ensures finds { FindsAll
         all_groups
         text.now
@@ -268,9 +272,9 @@ pub extern "C" fn fancy_captures_all(
 }
 
 /// Writes a text, in UTF-8, with its first `limit` matches replaced, all of them where that is 0: by a text as it stands,
-/// or by what it says as a template, as `Template` reads it. The code is `FANCY_OK`, or `FANCY_NO_ROOM` where there is not
-/// room for the new text with a zero at its end; how many bytes it has is said either way. Where the code is another,
-/// nothing is written. `pos` and `not_continued` of the options say nothing here.
+/// or by what it says as a template, as `Template` reads it. As much of the new text is written as there is room for, with
+/// a zero at its end, and how many bytes it has is said. The code is `FANCY_OK` where all of it was written, and
+/// `FANCY_NO_ROOM` where not. Where the code is another, nothing is written. `pos` and `not_continued` of the options say nothing here.
 #[unsafe(no_mangle)]
 pub extern "C" fn fancy_replace(
     alloc: Global,
@@ -282,6 +286,7 @@ pub extern "C" fn fancy_replace(
     limit: usize,
     room: &mut [u8],
 ) -> FancyOutcome
+    requires answers_for { AnswersFor options.now text.now }
     ensures replaces { ReplacesIn
         text.now
         options.now
@@ -439,18 +444,22 @@ pub extern "C" fn fancy_scanner_add(
 }
 
 /// Searches a text, in UTF-8, for the patterns of a scanner, from match to match: of several patterns the match that
-/// begins first, and of several that begin there that of the pattern that was added first.
+/// begins first, and of several that begin there that of the pattern that was added first. Of the options `size` and
+/// `text_is_utf8` count here.
 #[unsafe(no_mangle)]
 pub extern "C" fn fancy_scan(
     alloc: Global,
     scanner: &mut FancyScanner,
     text: &[u8],
+    options: &FancyOptions,
     pos: &mut usize,
     groups: usize,
     rows: &mut [usize],
 ) -> FancyOutcome
+    requires answers_for { AnswersFor options.now text.now }
     ensures scans { ScansIn
         text.now
+        options.now
         groups
         pos.old
         rows.old
@@ -462,9 +471,9 @@ pub extern "C" fn fancy_scan(
         scanner.old.handle.scanner text.now groups rows.new result }
     ensures keeps { HoldsSame scanner.old.handle.scanner scanner.new.handle.scanner }
 {
-    let text = match from_utf8(text) {
+    let text = match searched_text(text, options) {
         Ok(text) => text,
-        Err(fault) => return FancyOutcome::not_utf8(fault.valid_up_to()),
+        Err(outcome) => return outcome,
     };
     if !scanner.is_set {
         return scan(&mut Scanner::new(alloc), text, pos, groups, rows);

@@ -5,7 +5,7 @@ ghost use Rattle.fancy_host.specs.Messages.{Explains, IsMessage, WritesText};
 ghost use Rattle.fancy_host.specs.Messages as messages;
 
 use crate::options::FancyOptions;
-use crate::outcome::{FancyOutcome, MEMORY, TOO_MANY_LOOKUPS};
+use crate::outcome::{FancyOutcome, MEMORY};
 use crate::reading::text_of;
 use crate::writing::write_text;
 use fancy_expr::error::{CompileError, Error};
@@ -23,7 +23,7 @@ fn sentence_of(code: u32) -> &'static str
         2 => "nothing was compiled",
         3 => "the bytes are no UTF-8",
         4 => "the options do not fit the text, or what was compiled",
-        5 => "memory ran out",
+        5 => "out of memory",
         6 => "the tree cannot be read",
         7 => "too many branches failed",
         8 => "too many branches were held",
@@ -41,29 +41,29 @@ fn sentence_of(code: u32) -> &'static str
         20 => "the program is too big",
         21 => "parentheses nest deeper than the limit",
         22 => "the tree nests deeper than the limit",
-        23 => "a parenthesis is not closed: `)` is wanted",
-        24 => "a `)` closes no parenthesis",
-        25 =>
-            "the counts of a loop are out of order or too large: the first is to be at most the second",
-        26 => "a backslash ends the pattern: a character is wanted behind it",
-        27 => "no escape has this letter",
+        23 => "a parenthesis is not closed: expected `)`",
+        24 => "this `)` closes no parenthesis",
+        25 => "the counts of a repetition are out of order or too large",
+        26 => "the pattern ends with a backslash: expected a character after it",
+        27 => "there is no escape with this letter",
         28 => "a property has no name, or its `}` is missing",
-        29 => "a hexadecimal digit is wanted, or the `}` behind one to eight of them",
-        30 => "no character has this number",
-        31 => "a class is not closed: `]` is wanted",
-        32 => "no flag stands here: one of `imsxRUu` is wanted",
+        29 => "expected a hexadecimal digit, or `}` after one to eight of them",
+        30 => "there is no character with this number",
+        31 => "a class is not closed: expected `]`",
+        32 => "this is not a flag: expected one of `imsxRUu`",
         33 => "the flag `u` cannot be cleared",
-        34 => "this names no group: a letter or `_` is wanted, or a number, and what closes it",
+        34 =>
+            "this is not a group name: expected a letter, `_` or a number, and then what closes it",
         35 =>
-            "several groups have this name, so it cannot be called, or more than 100, so it cannot be referred to",
+            "several groups have this name, so it cannot be called, or more than 100 have it, so it cannot be referred to",
         36 => "the number is too large",
-        37 => "a quantifier follows nothing that can be repeated",
-        38 => "no verb goes on here, or there are more than a million groups",
+        37 => "there is nothing to repeat before this quantifier",
+        38 => "this is not a verb, or there are more than a million groups",
         39 => "the options have the size of another version",
         40 => "there is no room for the text",
         41 => "too many states were visited",
         42 => "too much memory was held",
-        43 => "the groups refer to one another too often",
+        43 => "the analysis of the pattern exceeds its limit",
         _ => "no error has this code",
     }
 }
@@ -142,8 +142,8 @@ fn explanation_of(
         Ok(tree) => tree,
         Err(error) => return message_of(alloc, &FancyOutcome::of_fault(&error)),
     };
-    if options.passes_analysis_limit(&tree) {
-        return message_of(alloc, &FancyOutcome::coded(TOO_MANY_LOOKUPS));
+    if let Err(outcome) = options.check_analysis(alloc, &tree) {
+        return message_of(alloc, &outcome);
     }
     let request = options.request();
     match Compiled::new(alloc, &tree, request.analysis(), request.compilation()) {

@@ -1,17 +1,19 @@
 //! What a host asks.
 
-ghost use Rattle.std.specs.Prelude.{◌≡◌, IsFalse, IsTrue};
+ghost use Rattle.std.specs.Prelude.{◌≡◌, MatchResult};
 ghost use Rattle.fancy_expr.specs.Sound.{IsWellFormedTree};
 ghost use Rattle.fancy_steps.specs.Tasks.{options_of as run_options_of};
 ghost use Rattle.fancy_host.specs.Hosted as hosted;
 ghost use Rattle.fancy_host.specs.Lists as lists;
 
-use fancy_analysis::lookups::is_looked_up_within;
+use crate::outcome::{ANALYSIS_LIMIT_EXCEEDED, FancyOutcome, MEMORY};
+use fancy_analysis::limit::is_analysis_within;
 use fancy_expr::expr::ExprTree;
 use fancy_matches::options::RegexOptions;
 use fancy_pattern::options::ParseOptions;
 use fancy_search::request::Request;
 use fancy_vm::vm::{RunOptions, SearchLimits};
+use std::alloc::Global;
 
 /// How many bytes the options have.
 const SIZE: usize = 104;
@@ -40,7 +42,7 @@ pub struct FancyOptions {
     pub max_depth: usize,
     /// How often a search may fall back to a branch; `usize::MAX` where the host gives no limit.
     pub backtrack_limit: usize,
-    /// How many instructions a search may execute.
+    /// How many instructions a search may execute; `u64::MAX` where the host gives no limit.
     pub step_limit: u64,
     /// Only the first start is tried: said to the compiler.
     pub compile_anchored: bool,
@@ -66,12 +68,14 @@ pub struct FancyOptions {
     pub oniguruma: bool,
     /// Where a group has a name, a plain `( )` captures nothing.
     pub named_groups_only: bool,
+    /// The host answers for each text that is searched: it is UTF-8, and is not checked.
+    pub text_is_utf8: bool,
     /// How many states the delegates of a search may take up together; 0 is no limit.
     pub visit_limit: u64,
     /// How many bytes what they keep may hold at one time, and as many the branches of the search; 0 is no limit.
     pub memory_limit: usize,
-    /// How often the analysis of a tree may look up the size of a group: each back reference and each call counts once
-    /// for each group, and once more. More is refused as `FANCY_ANALYSIS_LIMIT_EXCEEDED`; 0 is no limit.
+    /// How many nodes the analysis of a tree may look at in rounds that change something. More is refused as
+    /// `FANCY_ANALYSIS_LIMIT_EXCEEDED`; 0 is no limit.
     pub analysis_limit: usize,
     pub reserved: Reserved,
 }
@@ -103,9 +107,10 @@ impl Default for FancyOptions {
             swap_greed: false,
             oniguruma: false,
             named_groups_only: false,
-            visit_limit: 100_000_000,
+            text_is_utf8: false,
+            visit_limit: 20_000_000,
             memory_limit: 268_435_456,
-            analysis_limit: 20_000_000,
+            analysis_limit: 5_000_000,
             reserved: Reserved { first: 0 },
         }
     }
@@ -136,13 +141,22 @@ impl FancyOptions {
         }
     }
 
-    /// Whether the analysis of the tree looks up sizes of groups more often than its limit allows, if there is one.
-    pub fn passes_analysis_limit(&self, tree: &ExprTree) -> bool
+    /// Asks whether the analysis of the tree stands within its limit, if there is one.
+    pub fn check_analysis(&self, alloc: Global, tree: &ExprTree) -> Result<(), FancyOutcome>
         requires { IsWellFormedTree tree.now }
-        ensures passed { IsTrue result → hosted.PassesAnalysisLimit tree.now self.now }
-        ensures within { IsFalse result → ¬ hosted.PassesAnalysisLimit tree.now self.now }
+        ensures { MatchResult
+            result
+            (λ _. ¬ hosted.ExceedsAnalysisLimit tree.now self.now)
+            (hosted.IsUnanalysed tree.now self.now) }
     {
-        self.analysis_limit != 0 && !is_looked_up_within(tree, self.analysis_limit)
+        if self.analysis_limit == 0 {
+            return Ok(());
+        }
+        match is_analysis_within(alloc, tree, self.analysis_limit) {
+            Ok(true) => Ok(()),
+            Ok(false) => Err(FancyOutcome::coded(ANALYSIS_LIMIT_EXCEEDED)),
+            Err(_) => Err(FancyOutcome::coded(MEMORY)),
+        }
     }
 
     /// What they ask of a search.

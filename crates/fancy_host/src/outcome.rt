@@ -46,7 +46,7 @@ pub const WRONG_SIZE: u32 = 39;
 
 pub const NO_ROOM: u32 = 40;
 
-pub const TOO_MANY_LOOKUPS: u32 = 43;
+pub const ANALYSIS_LIMIT_EXCEEDED: u32 = 43;
 
 /// The code of a refusal.
 fn code_of_refusal(error: &CompileError) -> u32

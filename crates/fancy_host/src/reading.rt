@@ -1,7 +1,7 @@
 //! What a host gives: bytes that are a text, options of the right size, a program that holds something.
 
 ghost use Rattle.std.specs.Prelude.{◌≡◌, IsTrue, IsUtf8, MatchResult, None, Some};
-ghost use Rattle.fancy_host.specs.Hosted.{Compiles, IsNoSearch, IsNoText, IsSearch, compiled, groups, has_size, tree_in, tree_of};
+ghost use Rattle.fancy_host.specs.Hosted.{AnswersFor, Compiles, IsNoSearch, IsNoText, IsSearch, compiled, groups, has_size, tree_in, tree_of};
 ghost use Rattle.fancy_host.specs.Hosted as hosted;
 
 use crate::options::FancyOptions;
@@ -10,7 +10,7 @@ use crate::program::FancyProgram;
 use crate::searches::Searcher;
 use fancy_notation::depth::depth;
 use std::alloc::Global;
-use std::str::from_utf8;
+use std::str::{from_utf8, from_utf8_unchecked};
 
 /// The text of these bytes, where the options have their size.
 pub fn text_of<'t>(bytes: &'t [u8], options: &FancyOptions) -> Result<&'t str, FancyOutcome>
@@ -28,12 +28,27 @@ pub fn text_of<'t>(bytes: &'t [u8], options: &FancyOptions) -> Result<&'t str, F
     }
 }
 
+/// The text of a search, where the options have their size: these bytes as they are where the host answers for them.
+pub fn searched_text<'t>(bytes: &'t [u8], options: &FancyOptions) -> Result<&'t str, FancyOutcome>
+    requires { AnswersFor options.now bytes.now }
+    ensures { MatchResult
+        result
+        (λ text. (text.now ≡ bytes.now) × IsTrue (has_size options.now) × IsUtf8 bytes.now)
+        (λ outcome. IsNoText bytes.now options.now outcome) }
+{
+    if options.has_size() && options.text_is_utf8 {
+        return Ok(unsafe { from_utf8_unchecked(bytes) });
+    }
+    text_of(bytes, options)
+}
+
 /// The text of a search, where one can be made.
 pub fn searched<'t>(
     bytes: &'t [u8],
     options: &FancyOptions,
     program: &FancyProgram,
 ) -> Result<&'t str, FancyOutcome>
+    requires { AnswersFor options.now bytes.now }
     ensures { MatchResult
         result
         (λ text. (text.now ≡ bytes.now)
@@ -41,7 +56,7 @@ pub fn searched<'t>(
         (λ outcome. IsNoSearch
         bytes.now options.now (tree_of program.now.handle.searcher) outcome) }
 {
-    let text = text_of(bytes, options)?;
+    let text = searched_text(bytes, options)?;
     if !program.is_set {
         return Err(FancyOutcome::coded(NO_PROGRAM));
     }

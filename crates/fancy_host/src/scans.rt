@@ -17,9 +17,7 @@ ghost use Rattle.fancy_host.specs.Scanned.{FailsToRead, IsRuleFrom, Writes, grou
 ghost use Rattle.fancy_host.specs.Scanned as scanned;
 
 use crate::options::FancyOptions;
-use crate::outcome::{
-    FancyOutcome, NO_MATCH, OK, TOO_MANY_LOOKUPS, code_of_scan_limit, next_start,
-};
+use crate::outcome::{FancyOutcome, NO_MATCH, OK, code_of_scan_limit, next_start};
 use crate::reading::text_of;
 use crate::writing::write_from;
 use fancy_characters::places::is_place;
@@ -73,9 +71,7 @@ pub fn compile_rule(
         Ok(tree) => tree,
         Err(error) => return Err(FancyOutcome::of_fault(&error)),
     };
-    if options.passes_analysis_limit(&tree) {
-        return Err(FancyOutcome::coded(TOO_MANY_LOOKUPS));
-    }
+    options.check_analysis(alloc, &tree)?;
     let groups = tree.total_groups.saturating_add(1);
     let search = search_options(options);
     match ScanTree::new(alloc, &tree, &search, options.backtracks()) {

@@ -4,7 +4,7 @@ ghost use Rattle.std.specs.Prelude.{◌≡◌, IfOk, MatchResult};
 ghost use Rattle.fancy_expr.specs.Sound.{IsWellFormedTree};
 
 use crate::options::FancyOptions;
-use crate::outcome::{FancyOutcome, TOO_MANY_LOOKUPS};
+use crate::outcome::FancyOutcome;
 use crate::standing::FancyStanding;
 use crate::tree::CompiledTree;
 use fancy_expr::error::Error;
@@ -27,7 +27,7 @@ pub struct Searcher {
 impl Searcher {
     ghost use Rattle.std.specs.Prelude.{Some};
     ghost use Rattle.fancy_search.specs.Searches.{IsRefusedAs};
-    ghost use Rattle.fancy_host.specs.Hosted.{Answers, FailsToCompile, IsMadeFrom, IsMadeOf, IsRead, PassesAnalysisLimit, Source, asked_of, tree_in};
+    ghost use Rattle.fancy_host.specs.Hosted.{Answers, ExceedsAnalysisLimit, FailsToCompile, IsMadeFrom, IsMadeOf, IsRead, Source, asked_of, tree_in};
     ghost use Rattle.fancy_host.specs.Hosted as hosted;
     ghost use Rattle.fancy_host.specs.Lists.{Lists, all_groups, span_alone};
     ghost use Rattle.fancy_host.specs.Rewritten.{Replaces, writing};
@@ -40,7 +40,7 @@ impl Searcher {
         options: &FancyOptions,
     ) -> Result<Box<Searcher>, Error>
         requires well_formed { IsWellFormedTree tree }
-        requires analysed_within { ¬ PassesAnalysisLimit tree options.now }
+        requires analysed_within { ¬ ExceedsAnalysisLimit tree options.now }
         ensures { MatchResult
             result
             (λ searcher. IsMadeOf tree options.now (tree_in searcher.value))
@@ -73,9 +73,7 @@ impl Searcher {
             → IsRead source options.now tree
             → FailsToCompile options.now source outcome) }
     {
-        if options.passes_analysis_limit(&tree) {
-            return Err(FancyOutcome::coded(TOO_MANY_LOOKUPS));
-        }
+        options.check_analysis(alloc, &tree)?;
         match Searcher::of_tree_within_limit(alloc, tree, options) {
             Ok(searcher) => Ok(searcher),
             Err(error) => Err(FancyOutcome::of_error(&error)),
@@ -227,7 +225,7 @@ impl Searcher {
             .captures_all(alloc, text, options, standing, spans, scratch)
     }
 
-    /// Writes the text with its first `limit` matches replaced, where there is room for it with a zero at its end.
+    /// Writes the text with its first `limit` matches replaced, as much of it as there is room for with a zero at its end.
     pub fn replace(
         &mut self,
         alloc: Global,

@@ -1,6 +1,6 @@
 //! A tree that was compiled, and its searches.
 
-ghost use Rattle.std.specs.Prelude.{◌≡◌, [], IsTrue, MatchResult, None, string_bytes};
+ghost use Rattle.std.specs.Prelude.{◌≡◌, [], IsTrue, MatchResult, None};
 ghost use Rattle.fancy_meaning.specs.Fits.{run_fits};
 ghost use Rattle.fancy_steps.specs.SearchLimits.{StaysWithin};
 ghost use Rattle.fancy_vm.specs.Scratches.{limits_of, passed_of};
@@ -13,13 +13,14 @@ ghost use Rattle.fancy_replace.specs.Reading.{groups_named};
 use crate::names::{name_of, numbers_named};
 use crate::options::FancyOptions;
 use crate::outcome::{FancyOutcome, NO_MATCH, OK, write_answer};
-use crate::rewriting::{rewrite, write_whole};
+use crate::rewriting::{rewrite, text_room, write_kept};
 use crate::rows::{Groups, Row};
 use crate::standing::FancyStanding;
 use fancy_expr::error::Error;
 use fancy_matches::found::Match;
 use fancy_matches::searches::next_found;
 use fancy_matches::standing::Standing;
+use fancy_replace::output::BoundedText;
 use fancy_replace::replacer::NoExpand;
 use fancy_replace::template::Template;
 use fancy_search::search::Compiled;
@@ -49,7 +50,7 @@ impl CompiledTree {
     ghost use Rattle.fancy_host.specs.Hosted as hosted;
     ghost use Rattle.fancy_host.specs.Lists.{Lists, Writes, all_groups, span_alone, width_of};
     ghost use Rattle.fancy_host.specs.Names.{name_in};
-    ghost use Rattle.fancy_host.specs.Rewritten.{FailsToRewrite, IsRewritten, Replaces, writing};
+    ghost use Rattle.fancy_host.specs.Rewritten.{FailsToRewrite, HoldsRewritten, Replaces, writing};
     ghost use Rattle.fancy_host.specs.Whether.{Tells};
 
     /// The name of a group; empty where it has none.
@@ -257,7 +258,7 @@ impl CompiledTree {
     }
 
     /// The text with its first `limit` matches replaced, all of them where that is 0: by this text as it stands, or by
-    /// what it says as a template.
+    /// what it says as a template. So many bytes of it are kept.
     fn replaced(
         &self,
         alloc: Global,
@@ -266,16 +267,17 @@ impl CompiledTree {
         limit: usize,
         is_literal: bool,
         replacement: &str,
+        room: usize,
         scratch: &mut Scratch,
-    ) -> Result<String, Error>
+    ) -> Result<BoundedText, Error>
         requires fits { IsTrue (run_fits
             (task_of (program (compiled_of self.now)) [] options.now)) }
         requires passed { passed_of scratch.old ≡ None }
         ensures rewrites { MatchResult
             result
-            (λ new. IsRewritten
+            (HoldsRewritten
             (compiled_of self.now) text.now (run_options_of options.now) (as_limit limit)
-            (writing self.now is_literal replacement.now) (string_bytes new))
+            (writing self.now is_literal replacement.now) room)
             (FailsToRewrite
             (compiled_of self.now) text.now (run_options_of options.now) (as_limit limit)) }
         ensures limits { limits_of scratch.new ≡ limits_of scratch.old }
@@ -290,6 +292,7 @@ impl CompiledTree {
                 options,
                 limit,
                 &replacer,
+                room,
                 scratch,
             );
         }
@@ -301,11 +304,12 @@ impl CompiledTree {
             options,
             limit,
             &template,
+            room,
             scratch,
         )
     }
 
-    /// Writes that text where there is room for it with a zero at its end.
+    /// Writes as much of that text as there is room for, with a zero at its end.
     pub fn replace(
         &self,
         alloc: Global,
@@ -340,9 +344,10 @@ impl CompiledTree {
             limit,
             is_literal,
             replacement,
+            text_room(room),
             scratch,
         ) {
-            Ok(new) => write_whole(new.as_str(), room),
+            Ok(new) => write_kept(&new, room),
             Err(error) => FancyOutcome::of_failed(&error, scratch.passed()),
         }
     }

@@ -1,5 +1,5 @@
 -- Where no limit was asked and the whole tree is easy, no limit is passed.
-use Rattle.std.proofs.Common.{◌≡◌, ◌≤◌, ◌<◌, ◌+◌, ◌-◌, ◌^◌, min, ℕ, zero, suc, Bool, true, false, List, [], ◌∷◌, length, filter, Option, None, Result, Ok, Err, IfErr, IsFalse, refl, sym, ap, ◌∙◌, subst, arith, if◌then◌else◌}
+use Rattle.std.proofs.Common.{◌≡◌, ◌≤◌, ◌<◌, ◌+◌, ◌-◌, ◌*◌, ◌^◌, min, ℕ, zero, suc, Bool, true, false, List, [], ◌∷◌, length, filter, Option, None, Result, Ok, Err, IfErr, IsFalse, refl, sym, ap, ◌∙◌, subst, arith, if◌then◌else◌}
 use Rattle.fancy_meaning.specs.Answer.{Search, search_of, starts}
 use Rattle.fancy_meaning.specs.Hard.{is_root_hard}
 use Rattle.fancy_meaning.specs.Numbers.{usize_max}
@@ -13,7 +13,7 @@ use Rattle.fancy_expr.specs.declared.error.RuntimeError.{RuntimeError}
 use Rattle.fancy_expr.specs.declared.error.RuntimeError.TheVariants as limit
 use Rattle.fancy_vm.specs.Bounds.{IsBelowBound}
 use Rattle.fancy_search.specs.Searches.{Bounds, IsCompiledFrom}
-use Rattle.fancy_matches.specs.Listing.{backtracks_for}
+use Rattle.fancy_matches.specs.Listing.{backtracks_for, steps_for}
 use Rattle.fancy_matches.specs.Regexes.{IsNoLimit, IsNoLimitWhereEasy, IsSame, PromisesSo, compiled_of}
 use Rattle.fancy_matches.specs.declared.options.RegexOptions.{RegexOptions}
 use Rattle.fancy_matches.specs.declared.regexes.Regex.{Regex}
@@ -52,17 +52,20 @@ few_starts q =
 -- ---- so its limits are high enough
 
 module _ (i : Input) (text : List ℕ) (o : plain.RunOptions) (small : length text < 2 ^ 60)
-    (backtracks : o.backtrack_limit ≡ backtracks_for None text) (steps : o.step_limit ≡ 2 ^ 64 - 1) where
+    (backtracks : o.backtrack_limit ≡ backtracks_for None text) (steps : o.step_limit ≡ steps_for (2 ^ 64 - 1) text) where
   few_tried : tried i text o ≤ suc (length text)
   few_tried = few_starts (search_of (plan i) text o)
 
   not_below : (l : RuntimeError) → ¬ IsBelowBound i text o l
   not_below limit.BacktrackLimitExceeded below =
       let few = few_tried in
-      let enough : o.backtrack_limit ≡ min usize_max (length text + 1_000_001) = backtracks in
+      let enough : o.backtrack_limit ≡ min usize_max (length text + 20_000_001) = backtracks in
       below (omega (arith, few, enough, small))
   not_below limit.StackOverflow below = below
-  not_below limit.StepLimitExceeded below = let few = few_tried in below (omega (arith, few, steps, small))
+  not_below limit.StepLimitExceeded below =
+      let few = few_tried in
+      let enough : o.step_limit ≡ min (2 ^ 64 - 1) (length text * 8 + 100_000_008) = steps in
+      below (omega (arith, few, enough, small))
 
   pub no_limit : (e : Error) → IsFalse (is_root_hard (plan i).analysis) → Bounds i text o (Err e) → IsNoLimit e
   no_limit (error.RuntimeError l) easy bounds = not_below l (bounds easy)
@@ -74,10 +77,10 @@ module _ (i : Input) (text : List ℕ) (o : plain.RunOptions) (small : length te
 -- ---- a search of a regex
 
 module _ (r : Regex) (text : List ℕ) (o : plain.RunOptions)
-    (backtracks : o.backtrack_limit ≡ backtracks_for r.options.backtrack_limit text) (steps : o.step_limit ≡ r.options.run.step_limit) where
+    (backtracks : o.backtrack_limit ≡ backtracks_for r.options.backtrack_limit text) (steps : o.step_limit ≡ steps_for r.options.run.step_limit text) where
   pub easy_error : (e : Error) → ((i : Input) → IsCompiledFrom i (compiled_of r) → Bounds i text o (Err e)) → IsNoLimitWhereEasy r text e
   easy_error e bounds i from easy none small =
-      no_limit i text o small (backtracks ∙ ap (λ asked. backtracks_for asked text) none.0) (steps ∙ none.1) e easy (bounds i from)
+      no_limit i text o small (backtracks ∙ ap (λ asked. backtracks_for asked text) none.0) (steps ∙ ap (λ asked. steps_for asked text) none.1) e easy (bounds i from)
 
   pub easy_search : {A : Type 0} (Says : Option (List ℕ) → A → Type 0) (result : Result A Error) →
       ((i : Input) → IsCompiledFrom i (compiled_of r) → PromisesSo i text o Says result) → IfErr result (IsNoLimitWhereEasy r text)

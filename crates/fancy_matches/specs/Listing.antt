@@ -1,5 +1,5 @@
 -- The list of all matches of a text: one search after the other, each from where the one before left off.
-use Rattle.std.specs.Prelude.{◌≡◌, ℕ, zero, suc, ◌-◌, ◌≤◌, ◌<◌, Bool, true, false, ◌&&◌, not, List, [], ◌∷◌, ◌++◌, length, max, min, map, Option, Some, None, nat_le, nat_lt, ◌==◌, if◌then◌else◌, slice_range, slice_index_or, ◌+◌, ◌*◌}
+use Rattle.std.specs.Prelude.{◌≡◌, ℕ, zero, suc, ◌-◌, ◌≤◌, ◌<◌, Bool, true, false, ◌&&◌, not, List, [], ◌∷◌, ◌++◌, length, max, min, map, Option, Some, None, nat_le, nat_lt, ◌==◌, if◌then◌else◌, slice_range, slice_index_or, ◌+◌, ◌*◌, ◌^◌}
 use Rattle.std.specs.Option.{option_map_or}
 use Rattle.regex_hir.specs.Text.{is_none_or, is_some_and}
 use Rattle.fancy_meaning.specs.Answer.{answer, search_of}
@@ -31,11 +31,17 @@ begun_at o pos = record {
   step_limit = o.step_limit;
 }
 
--- How often a search of this text may fall back to a branch: so often as was asked, or else 1,000,000 times, and once more
+-- How often a search of this text may fall back to a branch: so often as was asked, or else 20,000,000 times, and once more
 -- for each byte of the text and for its end, which is at least once for each start that it may have.
 abbrev pub backtracks_for : Option ℕ → List ℕ → ℕ
-backtracks_for None text = min usize_max (length text + 1_000_001)
+backtracks_for None text = min usize_max (length text + 20_000_001)
 backtracks_for (Some limit) text = limit
+
+-- How many instructions it may make: so many as were asked. As many as can be counted ask for no limit, and are 100,000,000,
+-- and eight more for each byte of the text and for its end.
+abbrev pub steps_for : ℕ → List ℕ → ℕ
+steps_for asked text =
+    if asked == 2 ^ 64 - 1 then min (2 ^ 64 - 1) (length text * 8 + 100_000_008) else asked
 
 -- the options of the searches of this text, by those of all texts and the limit of backtracks that was asked
 abbrev pub options_for : RunOptions → Option ℕ → List ℕ → RunOptions
@@ -46,7 +52,7 @@ options_for o asked text = record {
   not_empty = o.not_empty;
   leftmost_longest = o.leftmost_longest;
   backtrack_limit = backtracks_for asked text;
-  step_limit = o.step_limit;
+  step_limit = steps_for o.step_limit text;
 }
 
 -- before the first match

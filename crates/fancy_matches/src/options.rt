@@ -10,9 +10,10 @@ use fancy_vm::vm::{RunOptions, SearchLimits};
 #[derive(Clone, Copy, Debug)]
 pub struct RegexOptions {
     /// The options of all searches but where each begins, whether it is continued, and how often it may fall back to a
-    /// branch.
+    /// branch. Where `step_limit` is `u64::MAX` no limit of instructions was asked: that is 100,000,000, and eight more for
+    /// each byte of the text and for its end.
     pub run: RunOptions,
-    /// How often a search may fall back to a branch. None is 1,000,000 times, and once more for each byte of the text
+    /// How often a search may fall back to a branch. None is 20,000,000 times, and once more for each byte of the text
     /// and for its end: a start that fails is one such time, and a text has no more starts than that.
     pub backtrack_limit: Option<usize>,
     /// How much the delegates of a search may take together.
@@ -26,7 +27,20 @@ impl RegexOptions {
     {
         match self.backtrack_limit {
             Some(limit) => limit,
-            None => text.len().saturating_add(1_000_001),
+            None => text.len().saturating_add(20_000_001),
+        }
+    }
+
+    /// How many instructions a search of this text may make.
+    fn steps_for(&self, text: &str) -> u64
+        ensures { result ≡ list.steps_for self.now.run.step_limit text.now }
+    {
+        if self.run.step_limit == u64::MAX {
+            (text.len() as u64)
+                .saturating_mul(8)
+                .saturating_add(100_000_008)
+        } else {
+            self.run.step_limit
         }
     }
 
@@ -38,6 +52,7 @@ impl RegexOptions {
     {
         RunOptions {
             backtrack_limit: self.backtracks_for(text),
+            step_limit: self.steps_for(text),
             ..self.run
         }
     }

@@ -55,7 +55,7 @@ impl Regex {
     /// begin at 0; where a search begins, and whether it is continued, each search sets for itself.
     ///
     /// How often a search may fall back to a branch is `backtrack_limit`, and the options do not say it. None is
-    /// 1,000,000 times, and once more for each start that the text may have, so that a search for an easy tree never
+    /// 20,000,000 times, and once more for each start that the text may have, so that a search for an easy tree never
     /// stops at it.
     ///
     /// A tree is refused as `Error::CompileError`, and as `Error::NestLimitExceeded` where it nests deeper than

@@ -76,6 +76,10 @@ impl<'t> FromSearch<'t> for Match<'t> {
         options: &RunOptions,
         scratch: &mut Scratch,
     ) -> Result<Option<Match<'t>>, Error> {
+        if compiled.is_too_short(text, options.pos) {
+            scratch.limit(scratch.limits());
+            return Ok(None);
+        }
         match run_spans(alloc, compiled.program(), text, options, scratch) {
             Ok(None) => Ok(None),
             Ok(Some((start, end))) => Ok(Some(Match { text, start, end })),

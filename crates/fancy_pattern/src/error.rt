@@ -43,32 +43,29 @@ fn kind_text(kind: ErrorKind) -> &'static str
     ensures { result.now ≡ kind_text kind }
 {
     match kind {
-        ErrorKind::UnclosedOpenParen => "a parenthesis is not closed: `)` is wanted",
-        ErrorKind::UnopenedCloseParen => "a `)` closes no parenthesis",
-        ErrorKind::InvalidRepeat => {
-            "the counts of a loop are out of order or too large: the first is to be at most the second"
-        }
+        ErrorKind::UnclosedOpenParen => "a parenthesis is not closed: expected `)`",
+        ErrorKind::UnopenedCloseParen => "this `)` closes no parenthesis",
+        ErrorKind::InvalidRepeat => { "the counts of a repetition are out of order or too large" }
         ErrorKind::RecursionExceeded => "parentheses nest deeper than 250",
         ErrorKind::TrailingBackslash =>
-            "a backslash ends the pattern: a character is wanted behind it",
-        ErrorKind::InvalidEscape => "no escape has this letter",
+            "the pattern ends with a backslash: expected a character after it",
+        ErrorKind::InvalidEscape => "there is no escape with this letter",
         ErrorKind::UnclosedUnicodeName => "a property has no name, or its `}` is missing",
-        ErrorKind::InvalidHex =>
-            "a hexadecimal digit is wanted, or the `}` behind one to eight of them",
-        ErrorKind::InvalidCodepointValue => "no character has this number",
-        ErrorKind::InvalidClass => "a class is not closed: `]` is wanted",
-        ErrorKind::UnknownFlag => "no flag stands here: one of `imsxRUu` is wanted",
+        ErrorKind::InvalidHex => "expected a hexadecimal digit, or `}` after one to eight of them",
+        ErrorKind::InvalidCodepointValue => "there is no character with this number",
+        ErrorKind::InvalidClass => "a class is not closed: expected `]`",
+        ErrorKind::UnknownFlag => "this is not a flag: expected one of `imsxRUu`",
         ErrorKind::NonUnicodeUnsupported => "the flag `u` cannot be cleared",
         ErrorKind::InvalidGroupName => {
-            "this names no group: a letter or `_` is wanted, or a number, and what closes it"
+            "this is not a group name: expected a letter, `_` or a number, and then what closes it"
         }
         ErrorKind::InvalidGroupNameBackref => {
-            "several groups have this name, so it cannot be called, or more than 100, so it cannot be referred to"
+            "several groups have this name, so it cannot be called, or more than 100 have it, so it cannot be referred to"
         }
         ErrorKind::InvalidBackref => "the number is too large",
-        ErrorKind::TargetNotRepeatable => "a quantifier follows nothing that can be repeated",
+        ErrorKind::TargetNotRepeatable => "there is nothing to repeat before this quantifier",
         ErrorKind::GeneralParseError => {
-            "no verb goes on here, or there are more than a million groups"
+            "this is not a verb, or there are more than a million groups"
         }
     }
 }
@@ -85,7 +82,7 @@ impl fmt::Display for PatternError {
                 let text = kind_text(*kind);
                 write!(f, "at byte {at}: {text}")
             }
-            PatternError::Memory => write!(f, "memory ran out"),
+            PatternError::Memory => write!(f, "out of memory"),
         }
     }
 }

@@ -49,11 +49,12 @@ impl Searcher<'_> {
         alloc: Global,
         start: usize,
         lie_apart: bool,
+        read: &mut usize,
     ) -> Result<OnePass, AllocError>
         requires { IsSearcher self.now }
         ensures { IfOk result (EndsOnePass self.now start) }
     {
-        let way = self.walk(alloc, start)?;
+        let way = self.walk(alloc, start, read)?;
         if !matches!(way, OnePass::Unknown) || !lie_apart {
             return Ok(way);
         }
@@ -70,12 +71,13 @@ impl Searcher<'_> {
         start: usize,
         groups: &mut GroupSpans,
         lie_apart: bool,
+        read: &mut usize,
     ) -> Result<OnePass, AllocError>
         requires searcher { IsSearcher self.now }
         requires groups { AreGroupsOf groups.old [] [] }
         ensures { IfOk result (EndsOnePassWith self.now start groups.new) }
     {
-        let way = self.walk_groups(alloc, start, groups)?;
+        let way = self.walk_groups(alloc, start, groups, read)?;
         if !matches!(way, OnePass::Unknown) || !lie_apart {
             return Ok(way);
         }

@@ -88,6 +88,8 @@ impl KeptRun {
 #[derive(Drop)]
 pub(crate) struct KeptRuns {
     pub(crate) by_state: Vec<KeptRun>,
+    /// How many states and bytes were passed, without the bytes of runs that were kept.
+    pub(crate) read: usize,
 }
 
 impl KeptRuns {
@@ -100,6 +102,7 @@ impl KeptRuns {
     {
         KeptRuns {
             by_state: Vec::new(alloc),
+            read: 0,
         }
     }
 
@@ -144,6 +147,15 @@ impl KeptRuns {
     }
 }
 
+/// How many bytes from this place on were passed.
+#[inline(always)]
+fn bytes_passed(passed: Passed, place: usize) -> usize {
+    match passed {
+        Passed::On { place: end, .. } => end.saturating_sub(place),
+        _ => 0,
+    }
+}
+
 impl Searcher<'_> {
     ghost use Rattle.fancy_plain.specs.KeptRuns.{AreRunsBy};
 
@@ -161,11 +173,14 @@ impl Searcher<'_> {
         ensures on { IfOk result (ComesPast self.now at place) }
         ensures runs { AreRunsBy self.now runs.new }
     {
+        runs.read = runs.read.saturating_add(1);
         let passed = self.past_loop_kept(alloc, at, place, runs)?;
         if !matches!(passed, Passed::Unknown) {
             return Ok(passed);
         }
-        self.past(alloc, at, place)
+        let passed = self.past(alloc, at, place)?;
+        runs.read = runs.read.saturating_add(bytes_passed(passed, place));
+        Ok(passed)
     }
 
     /// Past the jump or the loop at this state. It is not known where the loop's runs are not kept.
@@ -304,6 +319,7 @@ impl Searcher<'_> {
     {
         let kept = runs.behind(self.text.as_bytes(), state, from, most);
         let (to, left) = self.past_at_most(alloc, test, kept.to, most - kept.count)?;
+        runs.read = runs.read.saturating_add(to.saturating_sub(kept.to));
         let run = KeptRun {
             from,
             to,

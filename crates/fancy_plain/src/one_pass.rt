@@ -1,6 +1,6 @@
 //! One-pass matches, which need no choice: each test passes where it stands, and each loop takes what it can.
 
-ghost use Rattle.std.specs.Prelude.{◌≡◌, ◌≤◌, ◌&&◌, [], if◌then◌else◌, ℕ, IfOk, IfSome, IsTrue, None, Some, slice_get, true};
+ghost use Rattle.std.specs.Prelude.{◌≡◌, ◌≤◌, ◌+◌, ◌-◌, min, ◌&&◌, [], if◌then◌else◌, ℕ, IfOk, IfSome, IsTrue, None, Some, slice_get, true};
 ghost use Rattle.fancy_meaning.specs.Places.{is_place};
 ghost use Rattle.fancy_plain.specs.declared.search.Searcher as searcher_view;
 ghost use Rattle.fancy_plain.specs.declared.group_spans.GroupSpans as group_spans;
@@ -37,8 +37,15 @@ pub enum OnePass {
 
 impl Nfa {
     /// The first way of its nodes from `ix`, a character boundary of the text, as far as no choice is needed for it and
-    /// it sets no group. An error is a request for memory that was refused.
-    pub fn one_pass_end(&self, alloc: Global, text: &str, ix: usize) -> Result<OnePass, AllocError>
+    /// it sets no group. The states and bytes that are passed are added to `read`. An error is a request for memory that
+    /// was refused.
+    pub fn one_pass_end(
+        &self,
+        alloc: Global,
+        text: &str,
+        ix: usize,
+        read: &mut usize,
+    ) -> Result<OnePass, AllocError>
         requires place { IsTrue (is_place text.now ix) }
         requires nodes { ∥ IsOfNodes self.now ∥₁ }
         ensures { IfOk result (IsOnePass text.now self.now ix) }
@@ -51,7 +58,7 @@ impl Nfa {
             unicode: self.unicode,
             text,
         };
-        searcher.walk_surely(alloc, ix, self.is_walked_twice)
+        searcher.walk_surely(alloc, ix, self.is_walked_twice, read)
     }
 
     /// As `one_pass_end`, also of nodes with groups: the spans of the groups that the way sets are written over these.
@@ -62,6 +69,7 @@ impl Nfa {
         text: &str,
         ix: usize,
         groups: &mut GroupSpans,
+        read: &mut usize,
     ) -> Result<OnePass, AllocError>
         requires place { IsTrue (is_place text.now ix) }
         requires nodes { ∥ IsOfNodes self.now ∥₁ }
@@ -69,7 +77,7 @@ impl Nfa {
     {
         if self.is_one_pass {
             groups.begin(0);
-            return self.one_pass_end(alloc, text, ix);
+            return self.one_pass_end(alloc, text, ix, read);
         }
         let Some(first) = self.one_pass_group else {
             return Ok(OnePass::Unknown);
@@ -80,7 +88,7 @@ impl Nfa {
             unicode: self.unicode,
             text,
         };
-        searcher.walk_groups_surely(alloc, ix, groups, self.is_walked_twice)
+        searcher.walk_groups_surely(alloc, ix, groups, self.is_walked_twice, read)
     }
 }
 
@@ -235,14 +243,19 @@ impl Searcher<'_> {
 
     /// From state to state, where there is no group.
     #[inline(always)]
-    pub(crate) fn walk(&self, alloc: Global, ix: usize) -> Result<OnePass, AllocError>
+    pub(crate) fn walk(
+        &self,
+        alloc: Global,
+        ix: usize,
+        read: &mut usize,
+    ) -> Result<OnePass, AllocError>
         requires { IsSearcher self.now }
         ensures { IfOk result (EndsOnePass self.now ix) }
     {
         let mut at = 0;
         let mut place = ix;
         let mut is_sure = true;
-        'states: for _ in 0..usize::MAX {
+        'states: for passed in 0..usize::MAX {
             match self.past(alloc, at, place)? {
                 Passed::On {
                     at: after,
@@ -254,8 +267,14 @@ impl Searcher<'_> {
                     is_sure = are_both(is_sure, is_exact);
                     continue 'states;
                 }
-                Passed::Ends => return Ok(OnePass::Ends(place)),
-                Passed::Fails => return Ok(without_a_way(is_sure)),
+                Passed::Ends => {
+                    add_read(read, passed, ix, place);
+                    return Ok(OnePass::Ends(place));
+                }
+                Passed::Fails => {
+                    add_read(read, passed, ix, place);
+                    return Ok(without_a_way(is_sure));
+                }
                 _ => return Ok(OnePass::Unknown),
             }
         }
@@ -268,6 +287,7 @@ impl Searcher<'_> {
         alloc: Global,
         ix: usize,
         groups: &mut GroupSpans,
+        read: &mut usize,
     ) -> Result<OnePass, AllocError>
         requires searcher { IsSearcher self.now }
         requires groups { AreGroupsOf groups.old [] [] }
@@ -276,7 +296,7 @@ impl Searcher<'_> {
         let mut at = 0;
         let mut here = ix;
         let mut is_sure = true;
-        'states: for _ in 0..usize::MAX {
+        'states: for passed in 0..usize::MAX {
             match self.past(alloc, at, here)? {
                 Passed::On {
                     at: after,
@@ -300,8 +320,14 @@ impl Searcher<'_> {
                     at = after;
                     continue 'states;
                 }
-                Passed::Ends => return Ok(OnePass::Ends(here)),
-                Passed::Fails => return Ok(without_a_way(is_sure)),
+                Passed::Ends => {
+                    add_read(read, passed, ix, here);
+                    return Ok(OnePass::Ends(here));
+                }
+                Passed::Fails => {
+                    add_read(read, passed, ix, here);
+                    return Ok(without_a_way(is_sure));
+                }
                 Passed::Unknown => return Ok(OnePass::Unknown),
             }
         }
@@ -554,6 +580,16 @@ impl Searcher<'_> {
     {
         test.past_ascii(self.unicode, self.text.as_bytes(), from)
     }
+}
+
+/// Adds so many states, and the bytes from the one place up to the other.
+#[inline(always)]
+fn add_read(read: &mut usize, states: usize, from: usize, to: usize)
+    ensures { read.new ≡ min usize.MAX (min usize.MAX (read.old + states) + (to - from)) }
+{
+    *read = read
+        .saturating_add(states)
+        .saturating_add(to.saturating_sub(from));
 }
 
 /// What a test that fails says, where no loop was passed before, or else where one was.

@@ -1,6 +1,6 @@
 //! One-pass matches by what earlier ones in the same text kept.
 
-ghost use Rattle.std.specs.Prelude.{ℕ, List, [], IfOk, IfSome, IsTrue};
+ghost use Rattle.std.specs.Prelude.{◌≡◌, ℕ, List, [], IfOk, IfSome, IsTrue};
 ghost use Rattle.fancy_meaning.specs.Places.{is_place};
 ghost use Rattle.fancy_plain.specs.declared.nfa.Nfa as nfa;
 ghost use Rattle.fancy_plain.specs.GroupSpans.{AreGroupsOf, spans_in};
@@ -39,6 +39,13 @@ impl OnePassCache {
             runs: KeptRuns::new(alloc),
             ends: KeptEnds::new(alloc),
         }
+    }
+
+    /// How many states and bytes matches passed, without the bytes of runs that were kept.
+    pub fn read(&self) -> usize
+        ensures { result ≡ self.now.runs.read }
+    {
+        self.runs.read
     }
 }
 

@@ -48,9 +48,8 @@ module _ (asked : RegexOptions) (tree : ExprTree) where
             ap (λ o. options_for o (r.options).backtrack_limit text) h.options ∙ ap (λ k. options_for o k text) h.backtracks ∙ as_run text;
       }
 
-      pub unlimited_so : asked.backtrack_limit ≡ None → asked.step_limit ≡ 2 ^ 64 - 1 → engine.HasNoLimits r
-      unlimited_so backtracks steps =
-          (h.backtracks ∙ backtracks, ap (λ (o : plain.RunOptions). o.step_limit) (h.options) ∙ ap (λ (o : plain.RunOptions). o.step_limit) (as_run []) ∙ steps)
+      pub unlimited_so : o.step_limit ≡ asked.step_limit → asked.backtrack_limit ≡ None → asked.step_limit ≡ 2 ^ 64 - 1 → engine.HasNoLimits r
+      unlimited_so same backtracks steps = (h.backtracks ∙ backtracks, ap (λ (o : plain.RunOptions). o.step_limit) (h.options) ∙ same ∙ steps)
 
     pub refused_so : (m : Option ℕ) (e : _) → m ≡ asked.max_nesting →
         IsRefusedAs (record { parsed = parsed_of tree; analysis = a; options = k }) m e → IsRefusedAs (input tree asked) asked.max_nesting e

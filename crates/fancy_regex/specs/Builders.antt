@@ -12,7 +12,7 @@ use Rattle.fancy_pattern.specs.declared.options.ParseOptions.{ParseOptions}
 use Rattle.fancy_search.specs.Searches.{IsNestedOver, IsRefusedAs}
 use Rattle.fancy_regex.specs.Errors.{engine_error}
 use Rattle.fancy_regex.specs.Names.{group_count, names_in}
-use Rattle.fancy_regex.specs.Options.{PassesAnalysisLimit, default_options, input, limits, running}
+use Rattle.fancy_regex.specs.Options.{ExceedsAnalysisLimit, default_options, input, limits, running}
 use Rattle.fancy_regex.specs.Regexes.{IsRegexOf, engine_of, names_of, options_of, pattern_of}
 use Rattle.fancy_regex.specs.declared.builder.RegexBuilder.{RegexBuilder}
 use Rattle.fancy_regex.specs.declared.error.Error.{Error}
@@ -55,10 +55,10 @@ module _ (pattern : List ℕ) (o : RegexOptions) where
     pub spelled : spelling.IsTreeOf o.parsing (chars pattern) t
     pub well_formed : IsWellFormedTree t
 
-  -- the same, and its analysis stands within the limit
+  -- the same, and its analysis stays within the limit
   pub record IsTreeWithin (t : ExprTree) : Type 0 where
     pub spelled : IsTreeOf t
-    pub within : ¬ PassesAnalysisLimit o.analysis_limit t
+    pub within : ¬ ExceedsAnalysisLimit o.analysis_limit t
 
   -- it has this pattern and these options, the names of this tree, and what this was compiled to
   pub record IsMadeOf (tree : ExprTree) (engine : compiled_regex.Regex) (r : Regex) : Type 0 where
@@ -73,7 +73,7 @@ module _ (pattern : List ℕ) (o : RegexOptions) where
     pub spelled : IsTreeOf tree
     pub compiled : (text : List ℕ) → IsRegexOf (input tree o) text (running o text) r
     -- the tree stands within the limits of the analysis and of nesting
-    pub analysed_within : ¬ PassesAnalysisLimit o.analysis_limit tree
+    pub analysed_within : ¬ ExceedsAnalysisLimit o.analysis_limit tree
     pub within : ¬ IsNestedOver (input tree o) o.max_nesting
     -- where no limit of backtracks or instructions was asked it has none
     pub unlimited : o.backtrack_limit ≡ None → o.step_limit ≡ 2 ^ 64 - 1 → HasNoLimits (engine_of r)
@@ -83,20 +83,20 @@ module _ (pattern : List ℕ) (o : RegexOptions) where
     pub has_pattern : pattern_of r ≡ pattern
     pub has_options : options_of r ≡ o
 
-  -- a tree that the pattern spells passes the limit of the analysis
+  -- the analysis of a tree that the pattern spells exceeds its limit
   pub record IsOverAnalysisLimit : Type 0 where
     pub tree : ExprTree
     pub spelled : IsTreeOf tree
-    pub passed : PassesAnalysisLimit o.analysis_limit tree
+    pub exceeds : ExceedsAnalysisLimit o.analysis_limit tree
 
-  -- a tree that the pattern spells, and whose analysis stands within the limit, is refused with this error
+  -- a tree that the pattern spells, and whose analysis stays within the limit, is refused with this error
   pub record IsRefusedTree (e : Error) : Type 0 where
     pub tree : ExprTree
     pub spelled : IsTreeOf tree
-    pub analysed_within : ¬ PassesAnalysisLimit o.analysis_limit tree
+    pub analysed_within : ¬ ExceedsAnalysisLimit o.analysis_limit tree
     pub refused : IsRefusedAs (input tree o) o.max_nesting (engine_error e)
 
-  -- The pattern has this fault; the tree that it spells passes the limit of the analysis, or is refused; or memory was.
+  -- The pattern has this fault; the analysis of the tree that it spells exceeds its limit, or the tree is refused; or memory was.
   abbrev pub IsRefused : Error → Type 0
   IsRefused (face.ParseError at kind) = spelling.IsError o.parsing (chars pattern) (of_parser.Parse at kind)
   IsRefused (face.CompileError e) = IsRefusedTree (face.CompileError e)

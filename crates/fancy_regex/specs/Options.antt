@@ -5,8 +5,8 @@ use Rattle.fancy_meaning.specs.Options as plain
 use Rattle.fancy_meaning.specs.Premises.{Input}
 use Rattle.fancy_expr.specs.Views.{parsed_of}
 use Rattle.fancy_expr.specs.declared.expr.ExprTree.{ExprTree}
-use Rattle.fancy_analysis.specs.Lookups.{size_lookups}
-use Rattle.fancy_matches.specs.Listing.{backtracks_for}
+use Rattle.fancy_analysis.specs.AnalysisLimit.{analysis_nodes}
+use Rattle.fancy_matches.specs.Listing.{backtracks_for, steps_for}
 use Rattle.fancy_steps.specs.declared.search_limits.SearchLimits.{SearchLimits}
 use Rattle.fancy_pattern.specs.Options.{default_parsing}
 use Rattle.fancy_regex.specs.declared.options.RegexOptions.{RegexOptions}
@@ -19,17 +19,17 @@ default_options = record {
   longest = false;
   max_prog_size = Some 100_000;
   max_nesting = Some 500;
-  analysis_limit = Some 20_000_000;
+  analysis_limit = Some 5_000_000;
   backtrack_limit = None;
   step_limit = 2 ^ 64 - 1;
-  visit_limit = Some 100_000_000;
+  visit_limit = Some 20_000_000;
   memory_limit = Some 268_435_456;
 }
 
--- the analysis of the tree looks up sizes of groups more often than the limit allows
-abbrev pub PassesAnalysisLimit : Option ℕ → ExprTree → Type 0
-PassesAnalysisLimit None t = ⊥
-PassesAnalysisLimit (Some limit) t = limit < size_lookups t
+-- the analysis looks at more nodes in rounds that change something than the limit allows
+abbrev pub ExceedsAnalysisLimit : Option ℕ → ExprTree → Type 0
+ExceedsAnalysisLimit None t = ⊥
+ExceedsAnalysisLimit (Some limit) t = limit < analysis_nodes t
 
 -- how the tree is analysed
 abbrev pub analysis : RegexOptions → plain.AnalysisOptions
@@ -59,7 +59,7 @@ running o text = record {
   not_empty = o.not_empty;
   leftmost_longest = o.longest;
   backtrack_limit = backtracks_for o.backtrack_limit text;
-  step_limit = o.step_limit;
+  step_limit = steps_for o.step_limit text;
 }
 
 -- how much its searches of easy parts may take together

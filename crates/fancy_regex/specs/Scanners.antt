@@ -14,13 +14,14 @@ use Rattle.fancy_scanner.specs.declared.answers.Answer.{Answer}
 use Rattle.fancy_scanner.specs.declared.scan_text.ScanStep as engine_step
 use Rattle.fancy_scanner.specs.declared.scan_text.TreeMatch.{TreeMatch}
 use Rattle.fancy_scanner.specs.declared.scanner.Scan.{Scan}
+use Rattle.fancy_scanner.specs.declared.scanner.ScanTree.{ScanTree}
 use Rattle.fancy_scanner.specs.declared.scanner.Scanner as engine_scanner
 use Rattle.fancy_steps.specs.declared.search_limits.SearchLimit.{SearchLimit}
 use Rattle.fancy_matches.specs.Regexes as found
 use Rattle.fancy_regex.specs.Builders.{AreNamesOf, IsTreeOf}
 use Rattle.fancy_regex.specs.Errors.{engine_error}
 use Rattle.fancy_regex.specs.Found.{captures_names, shown_captures}
-use Rattle.fancy_regex.specs.Options.{PassesAnalysisLimit, input, limits, running}
+use Rattle.fancy_regex.specs.Options.{ExceedsAnalysisLimit, input, limits, running}
 use Rattle.fancy_regex.specs.declared.error.Error.{Error}
 use Rattle.fancy_regex.specs.declared.found.Captures.{Captures}
 use Rattle.fancy_regex.specs.declared.names.GroupNames.{GroupNames}
@@ -41,9 +42,16 @@ rule_for tree o text = record { input = input tree o; options = running o text; 
 pub record IsScanPattern (pattern : List ℕ) (o : RegexOptions) (p : ScanPattern) : Type 0 where
   pub tree : ExprTree
   pub spelled : IsTreeOf pattern o tree
-  pub analysed_within : ¬ PassesAnalysisLimit o.analysis_limit tree
+  pub analysed_within : ¬ ExceedsAnalysisLimit o.analysis_limit tree
   pub compiled : (text : List ℕ) → trees.IsTreeOf (rule_for tree o text) text p.compiled
   pub names : AreNamesOf tree (arc_value p.names)
+
+-- The same of what it was compiled to alone.
+pub record IsScanTree (pattern : List ℕ) (o : RegexOptions) (t : ScanTree) : Type 0 where
+  pub tree : ExprTree
+  pub spelled : IsTreeOf pattern o tree
+  pub analysed_within : ¬ ExceedsAnalysisLimit o.analysis_limit tree
+  pub compiled : (text : List ℕ) → trees.IsTreeOf (rule_for tree o text) text t
 
 -- ---- a scanner
 
@@ -64,7 +72,7 @@ IsScannerOf rules text s = trees.IsScannerOf rules text (trees_in s)
 pub record Adds (pattern : List ℕ) (o : RegexOptions) (s t : Scanner) : Type 0 where
   pub tree : ExprTree
   pub spelled : IsTreeOf pattern o tree
-  pub analysed_within : ¬ PassesAnalysisLimit o.analysis_limit tree
+  pub analysed_within : ¬ ExceedsAnalysisLimit o.analysis_limit tree
   pub rules : (text : List ℕ) (rules : List Rule) → IsScannerOf rules text s →
       IsScannerOf (rules ++ rule_for tree o text ∷ []) text t
   pub group_names : GroupNames

@@ -3,7 +3,7 @@
 ghost use Rattle.std.specs.Prelude.{◌≡◌, ◌≤◌, MatchResult, Some};
 ghost use Rattle.fancy_meaning.specs.WellFormed.{most_groups};
 ghost use Rattle.fancy_regex.specs.Builders.{AreNamesOf, IsBuilt, IsMadeOf, IsRefused, IsTreeOf, IsTreeWithin, default_builder, options, parsing, with_options, with_parsing};
-ghost use Rattle.fancy_regex.specs.Scanners.{IsScanPattern};
+ghost use Rattle.fancy_regex.specs.Scanners.{IsScanPattern, IsScanTree};
 
 use crate::error::Error;
 use crate::names::GroupNames;
@@ -147,7 +147,7 @@ impl<'p> RegexBuilder<'p> {
         self
     }
 
-    /// How often a search may fall back to a branch. Unless set it is 1,000,000 times, and once more for each byte of the
+    /// How often a search may fall back to a branch. Unless set it is 20,000,000 times, and once more for each byte of the
     /// text and for its end.
     #[must_use]
     pub fn backtrack_limit(self, limit: usize) -> RegexBuilder<'p>
@@ -163,7 +163,8 @@ impl<'p> RegexBuilder<'p> {
         }
     }
 
-    /// How many instructions a search may execute.
+    /// How many instructions a search may execute. Unless set, or with `u64::MAX`, it is 100,000,000, and eight more for each
+    /// byte of the text and for its end.
     #[must_use]
     pub fn step_limit(mut self, limit: u64) -> RegexBuilder<'p>
         ensures { result ≡ with_options self.entry
@@ -206,9 +207,10 @@ impl<'p> RegexBuilder<'p> {
         }
     }
 
-    /// How often the analysis of the pattern may look up the size of a group, or with `None` any number of times. Unless
-    /// set it is 20,000,000. Each back reference and each call counts once for each group of the pattern, and once more.
-    /// A pattern that takes more is refused as `Error::AnalysisLimitExceeded`, before it is analysed.
+    /// How many nodes of the pattern the analysis may look at in rounds that change something, or with `None` any number.
+    /// Unless set it is 5,000,000. All nodes count once for each round in which the size of a group changes, and in
+    /// patterns with calls once for each in which a further group is found to be able to end. A pattern that exceeds it
+    /// is refused as `Error::AnalysisLimitExceeded`, before it is analysed.
     #[must_use]
     pub fn analysis_limit(self, limit: Option<usize>) -> RegexBuilder<'p>
         ensures { result ≡ with_options self.entry
@@ -224,7 +226,8 @@ impl<'p> RegexBuilder<'p> {
     }
 
     /// How many states a search may visit in plain parts of the pattern, those that are searched without backtracking, or
-    /// with `None` any number. Unless set it is 100,000,000. A search that visits more is `Error::VisitLimitExceeded`. It
+    /// with `None` any number. Unless set it is 20,000,000. What walks over the text and back references pass counts too, once
+    /// it is much more than the text. A search that visits more is `Error::VisitLimitExceeded`. It
     /// bounds the work of a search, and with `step_limit` all of it.
     #[must_use]
     pub fn visit_limit(self, limit: Option<usize>) -> RegexBuilder<'p>
@@ -270,7 +273,7 @@ impl<'p> RegexBuilder<'p> {
         }
     }
 
-    /// The tree of the pattern, if its analysis stands within the limit.
+    /// The tree of the pattern, if its analysis stays within the limit.
     fn tree_within_limit(&self, alloc: Global) -> Result<ExprTree, Error>
         ensures { MatchResult
             result
@@ -278,18 +281,18 @@ impl<'p> RegexBuilder<'p> {
             (IsRefused self.now.pattern.now (options self.now)) }
     {
         let tree = self.tree(alloc)?;
-        if self.options.passes_analysis_limit(&tree) {
-            Err(Error::AnalysisLimitExceeded)
-        } else {
+        if self.options.is_within_analysis_limit(alloc, &tree)? {
             Ok(tree)
+        } else {
+            Err(Error::AnalysisLimitExceeded)
         }
     }
 
     /// The regex of the pattern with these options.
     ///
-    /// A pattern that cannot be read is an `Error::ParseError`. One whose groups refer to one another too often is an
+    /// A pattern that cannot be read is an `Error::ParseError`. One whose analysis exceeds its limit is an
     /// `Error::AnalysisLimitExceeded`, and one that is refused otherwise an `Error::CompileError` or an
-    /// `Error::NestLimitExceeded`. Want of memory is `Error::Memory`.
+    /// `Error::NestLimitExceeded`. Out of memory is `Error::Memory`.
     pub fn build(&self, alloc: Global) -> Result<Regex, Error>
         ensures { MatchResult
             result
@@ -340,6 +343,19 @@ impl<'p> RegexBuilder<'p> {
             }
             Err(error) => Err(Error::from(error)),
         }
+    }
+
+    /// The pattern compiled for a scanner by trees, as `fancy_scanner` has it, with the limits of these options.
+    ///
+    /// It is refused as `build` refuses it.
+    pub fn build_scan_tree(&self, alloc: Global) -> Result<ScanTree, Error>
+        ensures { MatchResult
+            result
+            (IsScanTree self.now.pattern.now (options self.now))
+            (IsRefused self.now.pattern.now (options self.now)) }
+    {
+        let ScanPattern { compiled, names: _ } = self.scan_pattern(alloc)?;
+        Ok(compiled)
     }
 
     /// The regex of the pattern, by its tree and what this was compiled to.

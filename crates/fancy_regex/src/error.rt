@@ -25,7 +25,7 @@ pub enum Error {
     RuntimeError(RuntimeError),
     /// More nodes of the pattern stand in one another, where they are written out, than the limit allows.
     NestLimitExceeded,
-    /// The groups of the pattern refer to one another more often than `analysis_limit` allows.
+    /// The analysis of the pattern exceeds `analysis_limit`.
     AnalysisLimitExceeded,
     /// A search visited more states of plain parts of the pattern than `visit_limit` allows.
     VisitLimitExceeded,
@@ -120,7 +120,7 @@ impl fmt::Display for Error {
             Error::RuntimeError(error) => write!(f, "{error}"),
             Error::NestLimitExceeded => write!(f, "the pattern nests deeper than the limit"),
             Error::AnalysisLimitExceeded => {
-                write!(f, "the groups refer to one another too often")
+                write!(f, "the analysis of the pattern exceeds its limit")
             }
             Error::VisitLimitExceeded => write!(f, "too many states were visited"),
             Error::MemoryLimitExceeded => write!(f, "too much memory was held"),

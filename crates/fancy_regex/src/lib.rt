@@ -15,6 +15,7 @@ pub mod splits;
 pub use builder::RegexBuilder;
 pub use error::{CompileError, Error, ParseErrorKind, RuntimeError};
 pub use fancy_pattern::escape::escape;
+pub use fancy_replace::output::Output;
 pub use fancy_replace::parts::{Part, Parts};
 pub use fancy_replace::replacer::{NoExpand, Replacer};
 pub use fancy_replace::template::Template;

@@ -1,21 +1,22 @@
 //! The options of a regex.
 
-ghost use Rattle.std.specs.Prelude.{◌≡◌, ℕ, [], IsFalse, IsTrue, List};
+ghost use Rattle.std.specs.Prelude.{◌≡◌, ℕ, [], IfOk, IsFalse, IsTrue, List};
 ghost use Rattle.fancy_expr.specs.Sound.{IsWellFormedTree};
 ghost use Rattle.fancy_info.specs.Infos.{analysis_options_of};
 ghost use Rattle.fancy_compile.specs.Compiled.{compile_options_of};
 ghost use Rattle.fancy_steps.specs.Tasks.{options_of as run_options_of};
 ghost use Rattle.fancy_search.specs.Searches.{search_fits};
 ghost use Rattle.fancy_matches.specs.Listing.{options_for};
-ghost use Rattle.fancy_regex.specs.Options.{PassesAnalysisLimit, analysis, compilation, default_options, limits, running};
+ghost use Rattle.fancy_regex.specs.Options.{ExceedsAnalysisLimit, analysis, compilation, default_options, limits, running};
 
 use fancy_analysis::analyze::AnalyzeContext;
-use fancy_analysis::lookups::is_looked_up_within;
+use fancy_analysis::limit::is_analysis_within;
 use fancy_compile::compile::{BytesMode, CompileOptions};
 use fancy_expr::expr::ExprTree;
 use fancy_pattern::options::ParseOptions;
 use fancy_search::search::SearchOptions;
 use fancy_vm::vm::{RunOptions, SearchLimits};
+use std::alloc::{AllocError, Global};
 
 /// How a pattern is read and compiled, and how its regex searches.
 #[derive(Clone, Copy, Debug)]
@@ -29,9 +30,10 @@ pub struct RegexOptions {
     pub(crate) max_prog_size: Option<usize>,
     /// How many nodes may stand in one another where they are written out.
     pub(crate) max_nesting: Option<usize>,
-    /// How often the analysis may look up the size of a group.
+    /// How many nodes the analysis may look at in rounds that change something.
     pub(crate) analysis_limit: Option<usize>,
     pub(crate) backtrack_limit: Option<usize>,
+    /// `u64::MAX` where none was asked.
     pub(crate) step_limit: u64,
     /// How many states of easy parts a search may visit.
     pub(crate) visit_limit: Option<usize>,
@@ -49,25 +51,31 @@ impl Default for RegexOptions {
             longest: false,
             max_prog_size: Some(100_000),
             max_nesting: Some(500),
-            analysis_limit: Some(20_000_000),
+            analysis_limit: Some(5_000_000),
             backtrack_limit: None,
             step_limit: u64::MAX,
-            visit_limit: Some(100_000_000),
+            visit_limit: Some(20_000_000),
             memory_limit: Some(268_435_456),
         }
     }
 }
 
 impl RegexOptions {
-    /// The analysis of the tree looks up sizes of groups more often than its limit allows.
-    pub(crate) fn passes_analysis_limit(&self, tree: &ExprTree) -> bool
+    /// The analysis of the tree stays within its limit.
+    pub(crate) fn is_within_analysis_limit(
+        &self,
+        alloc: Global,
+        tree: &ExprTree,
+    ) -> Result<bool, AllocError>
         requires { IsWellFormedTree tree.now }
-        ensures passed { IsTrue result → PassesAnalysisLimit self.now.analysis_limit tree.now }
-        ensures within { IsFalse result → ¬ PassesAnalysisLimit self.now.analysis_limit tree.now }
+        ensures within { IfOk result (λ within. IsTrue within →
+            ¬ ExceedsAnalysisLimit self.now.analysis_limit tree.now) }
+        ensures exceeded { IfOk result (λ within. IsFalse within →
+            ExceedsAnalysisLimit self.now.analysis_limit tree.now) }
     {
         match self.analysis_limit {
-            Some(limit) => !is_looked_up_within(tree, limit),
-            None => false,
+            Some(limit) => Ok(is_analysis_within(alloc, tree, limit)?),
+            None => Ok(true),
         }
     }
 
@@ -93,6 +101,7 @@ impl RegexOptions {
         ensures run { (text : List ℕ)
             → options_for (run_options_of result.run) self.now.backtrack_limit text
             ≡ running self.now text }
+        ensures steps { result.run.step_limit ≡ self.now.step_limit }
     {
         SearchOptions {
             analysis: AnalyzeContext {

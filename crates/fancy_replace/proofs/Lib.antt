@@ -1,4 +1,6 @@
+pub mod Cutoffs
 pub mod Cutting
+pub mod Growing
 pub mod Naming
 pub mod Replacing
 pub mod Tokenizing

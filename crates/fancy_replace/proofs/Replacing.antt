@@ -153,7 +153,7 @@ module _ (i : Input) (o : plain.RunOptions) (text : List ℕ) (most : Option ℕ
       ∙ ap (λ ms. out ++ rest_rewrite replacement text s.from ms) (sym none_left) ∙ done.value
 
 -- with no match to be replaced the text is as it was
-rewrite-none : (text : List ℕ) (replacement : List ℕ → List ℕ) (ms : List (List ℕ)) → ms ≡ [] → text ≡ rewrite replacement text ms
+pub rewrite-none : (text : List ℕ) (replacement : List ℕ → List ℕ) (ms : List (List ℕ)) → ms ≡ [] → text ≡ rewrite replacement text ms
 rewrite-none text replacement ms e =
     drop_split text 0 (length text) (omega arith)
     ∙ ap (λ rest. slice_range text 0 (length text) ++ rest) (drop_all (length text) text (omega arith))
@@ -215,10 +215,9 @@ module _ (r q p : Regex) (text : List ℕ) (most : Option ℕ) (write : List ℕ
 
   -- no match is left
   module _ (is : found ≡ Ok None) (i : Input) (o : plain.RunOptions) (of : IsRegexOf i text o r) where
-    pub same_text : is_same ≡ true → text ≡ rewrite (write text) text (to_replace i o text most)
-    same_text same =
-        rewrite-none text (write text) _
-        (none_to_replace i o text most (write text) s t out is_same so_far.within to (steps _ is i o of) (so_far.done i o of) same)
+    pub none_replaced : is_same ≡ true → to_replace i o text most ≡ []
+    none_replaced =
+        none_to_replace i o text most (write text) s t out is_same so_far.within to (steps _ is i o of) (so_far.done i o of)
 
     pub new_text : (new rest : List ℕ) → new ≡ out ++ rest → rest ≡ rest_of t → new ≡ rewrite (write text) text (to_replace i o text most)
     new_text = ends i o text most (write text) s t out is_same so_far.within to (steps _ is i o of) (so_far.done i o of)

@@ -1,3 +1,4 @@
+pub mod Outputs
 pub mod Parts
 pub mod Pieces
 pub mod Reading

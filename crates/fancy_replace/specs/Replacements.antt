@@ -1,5 +1,5 @@
 -- The text after a replacement, and why there is none.
-use Rattle.std.specs.Prelude.{◌≡◌, ◌⊎◌, ℕ, List, [], ◌∷◌, length, take, IfErr, IfOk, Option, Result, Ok, Err}
+use Rattle.std.specs.Prelude.{◌≡◌, ◌≢◌, ◌⊎◌, ℕ, Bool, true, false, List, [], ◌∷◌, length, take, IfErr, IfOk, MatchResult, Option, Result, Ok, Err}
 use Rattle.std.specs.Cow.{cow_str_bytes, IsOwnedStr}
 use Rattle.std.specs.declared.alloc.Global.{Global}
 use Rattle.std.specs.declared.borrow.CowStr.{CowStr}
@@ -11,6 +11,7 @@ use Rattle.fancy_steps.specs.Outcomes.{first_pair}
 use Rattle.fancy_matches.specs.Listing.{ComesTo, Standing, all_matches, at_start, part}
 use Rattle.fancy_matches.specs.Regexes.{FailsAt, IsNoLimitWhereEasy, IsRegexOf, IsSame, StaysIn}
 use Rattle.fancy_matches.specs.declared.regexes.Regex.{Regex}
+use Rattle.fancy_replace.specs.Outputs.{Grows}
 use Rattle.fancy_replace.specs.Pieces.{IsBelow, rewrite, take_limit}
 
 module _ (i : Input) (o : plain.RunOptions) (text : List ℕ) (limit : Option ℕ) where
@@ -32,6 +33,13 @@ module _ (i : Input) (o : plain.RunOptions) (text : List ℕ) (limit : Option �
   Replaces replacement (Ok v) =
       (cow_str_bytes v ≡ rewrite (replacement text) text to_replace) × (to_replace ≡ [] → ¬ (IsOwnedStr v))
   Replaces replacement (Err e) = FailsAfter e ⊎ (e ≡ Memory)
+
+-- an output grew by the text with what is written for each match, or nothing was to be replaced and it grew by nothing
+abbrev pub AppendsReplaced : {O : Type 0} → (O → ℕ → List ℕ → Type 0) → O → Input → plain.RunOptions → List ℕ → Option ℕ →
+    (List ℕ → List ℕ → List ℕ) → Bool → O → Type 0
+AppendsReplaced holds out i o text limit write true new =
+    (to_replace i o text limit ≢ []) × Grows holds out (rewrite (write text) text (to_replace i o text limit)) new
+AppendsReplaced holds out i o text limit write false new = (to_replace i o text limit ≡ []) × Grows holds out [] new
 
 -- what is written for each match is the match itself
 abbrev pub WritesMatch : (List ℕ → List ℕ → List ℕ) → List ℕ → Type 0
@@ -56,4 +64,15 @@ pub record IsReplacement (r : Regex) (text : List ℕ) (limit : Option ℕ) (wri
   pub easy : IfErr result (IsNoLimitWhereEasy r text)
   pub same : IsSame r q
   -- its last search passed no limit inside easy parts, or `Memory` is answered
+  pub stays : StaysIn result q
+
+-- The same, appended to an output that holds texts so. The answer says whether a match was replaced, and nothing is appended
+-- where none was.
+pub record IsReplacedInto {O : Type 0} (holds : O → ℕ → List ℕ → Type 0) (r : Regex) (text : List ℕ) (limit : Option ℕ)
+    (write : List ℕ → List ℕ → List ℕ) (out : O) (result : Result Bool Error) (q : Regex) (new : O) : Type 0 where
+  pub promise : (i : Input) (o : plain.RunOptions) → IsRegexOf i text o r → MatchResult result
+      (λ is_replaced. AppendsReplaced holds out i o text limit write is_replaced new)
+      (λ e. FailsAfter i o text limit e ⊎ (e ≡ Memory))
+  pub easy : IfErr result (IsNoLimitWhereEasy r text)
+  pub same : IsSame r q
   pub stays : StaysIn result q

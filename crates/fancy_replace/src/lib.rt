@@ -2,6 +2,7 @@
 #![tactic(auto)]
 
 mod cuts;
+pub mod output;
 pub mod parts;
 pub mod pieces;
 pub mod replace;

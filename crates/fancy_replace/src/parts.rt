@@ -1,7 +1,11 @@
 //! Replacements that are made of texts and groups.
 
-ghost use Rattle.std.specs.Prelude.{◌≡◌, ◌++◌, OnOk, string_bytes};
+ghost use Rattle.std.specs.Prelude.{◌≡◌, OnOk};
+ghost use Rattle.fancy_matches.specs.Regexes.{captures_text, numbers_in};
+ghost use Rattle.fancy_replace.specs.Outputs.{Grows};
+ghost use Rattle.fancy_replace.specs.Parts as parts;
 
+use crate::output::Output;
 use crate::replacer::Replacer;
 use fancy_matches::found::Captures;
 use std::alloc::AllocError;
@@ -16,21 +20,29 @@ pub enum Part<'a> {
 }
 
 impl<'a> Part<'a> {
-    ghost use Rattle.fancy_matches.specs.Regexes.{captures_text, numbers_in};
     ghost use Rattle.fancy_replace.specs.Parts.{part_text};
 
     /// Appends what it stands for.
-    fn append(&self, captures: &Captures<'_>, out: &mut String) -> Result<(), AllocError>
-        ensures { OnOk result (string_bytes out.new ≡ string_bytes out.old
-            ++ part_text (captures_text captures.now) (numbers_in captures.now) self.now) }
+    fn append<O: Output>(&self, captures: &Captures<'_>, out: &mut O) -> Result<(), AllocError>
+        ensures { OnOk result (Grows
+            O.holds out.old
+            (part_text (captures_text captures.now) (numbers_in captures.now) self.now)
+            out.new) }
     {
         match self {
-            Part::Text(text) => out.push_str(text),
-            Part::Group(group) => match captures.get(*group) {
-                Some(found) => out.push_str(found.as_str()),
-                None => Ok(()),
-            },
+            Part::Text(text) => out.append(text),
+            Part::Group(group) => out.append(group_text(captures, *group)),
         }
+    }
+}
+
+/// What a group took; nothing if it is not there or not set.
+fn group_text<'t>(captures: &Captures<'t>, group: usize) -> &'t str
+    ensures { result.now ≡ parts.group_text (captures_text captures.now) (numbers_in captures.now) group }
+{
+    match captures.get(group) {
+        Some(found) => found.as_str(),
+        None => "",
     }
 }
 
@@ -43,7 +55,11 @@ impl<'a> Replacer for Parts<'a> {
 
     ghost replacement_text = { λ r text numbers. parts_text text numbers r.0.now };
 
-    fn replace_append(&self, captures: &Captures<'_>, out: &mut String) -> Result<(), AllocError> {
+    fn replace_append<O: Output>(
+        &self,
+        captures: &Captures<'_>,
+        out: &mut O,
+    ) -> Result<(), AllocError> {
         for part in self.0 {
             part.append(captures, out)?;
         }

@@ -1,11 +1,13 @@
 //! Matches are replaced.
 
-ghost use Rattle.std.specs.Prelude.{◌≡◌, ◌++◌, OnOk, Some, None, string_bytes};
+ghost use Rattle.std.specs.Prelude.{◌≡◌, ◌++◌, OnOk, Some, None};
 ghost use Rattle.fancy_matches.specs.Regexes.{captures_text, numbers_in};
+ghost use Rattle.fancy_replace.specs.Outputs.{Grows};
 ghost use Rattle.fancy_replace.specs.Pieces.{as_limit};
-ghost use Rattle.fancy_replace.specs.Replacements.{IsReplacement};
+ghost use Rattle.fancy_replace.specs.Replacements.{IsReplacedInto, IsReplacement};
 
 use crate::cuts::{Cut, Cuts};
+use crate::output::Output;
 use crate::replacer::Replacer;
 use fancy_expr::error::Error;
 use fancy_matches::regexes::Regex;
@@ -52,18 +54,47 @@ pub fn replacen<'t, R: Replacer>(
     ensures { IsReplacement
         regex.old text.now (as_limit limit) (R.replacement_text replacement.now) result regex.new }
 {
-    let mut cuts = Cuts::new(text, limit_of(limit));
     let mut out = String::new(alloc);
-    let mut is_same = true;
-    'matches: while let Some(cut) = cuts.next(regex)? {
-        append(&cut, replacement, &mut out)?;
-        is_same = false;
-    }
-    if is_same {
+    let is_replaced = replace_into(regex, text, limit, replacement, &mut out)?;
+    if !is_replaced {
         return Ok(CowStr::Borrowed(text));
     }
-    out.push_str(cuts.rest())?;
     Ok(CowStr::Owned(out))
+}
+
+/// Appends the text with its first `limit` matches replaced, all of them where that is 0. False is answered, and nothing
+/// is appended, where there is none.
+///
+/// Errors are those of `replacen`. After one a part of the text may stand there.
+pub fn replace_into<R: Replacer, O: Output>(
+    regex: &mut Regex,
+    text: &str,
+    limit: usize,
+    replacement: &R,
+    out: &mut O,
+) -> Result<bool, Error>
+    ensures { IsReplacedInto
+        O.holds
+        regex.old
+        text.now
+        (as_limit limit)
+        (R.replacement_text replacement.now)
+        out.old
+        result
+        regex.new
+        out.new }
+{
+    let mut cuts = Cuts::new(text, limit_of(limit));
+    let mut is_replaced = false;
+    'matches: while let Some(cut) = cuts.next(regex)? {
+        append(&cut, replacement, out)?;
+        is_replaced = true;
+    }
+    if !is_replaced {
+        return Ok(false);
+    }
+    out.append(cuts.rest())?;
+    Ok(true)
 }
 
 /// No limit for 0.
@@ -74,11 +105,17 @@ fn limit_of(limit: usize) -> Option<usize>
 }
 
 /// Appends the piece before a match, and what is written in the place of the match.
-fn append<R: Replacer>(cut: &Cut<'_>, replacement: &R, out: &mut String) -> Result<(), AllocError>
-    ensures { OnOk result (string_bytes out.new ≡ string_bytes out.old ++ (cut.now.piece.now
-        ++ R.replacement_text replacement.now (captures_text cut.now.captures)
-        (numbers_in cut.now.captures))) }
+fn append<R: Replacer, O: Output>(
+    cut: &Cut<'_>,
+    replacement: &R,
+    out: &mut O,
+) -> Result<(), AllocError>
+    ensures { OnOk result (Grows
+        O.holds out.old
+        (cut.now.piece.now ++ R.replacement_text replacement.now (captures_text cut.now.captures)
+        (numbers_in cut.now.captures))
+        out.new) }
 {
-    out.push_str(cut.piece)?;
+    out.append(cut.piece)?;
     replacement.replace_append(&cut.captures, out)
 }

@@ -1,7 +1,9 @@
 //! What is written in the place of a match.
 
-ghost use Rattle.std.specs.Prelude.{◌≡◌, ◌++◌, ℕ, List, OnOk, string_bytes};
+ghost use Rattle.std.specs.Prelude.{ℕ, List, OnOk};
+ghost use Rattle.fancy_replace.specs.Outputs.{Grows};
 
+use crate::output::Output;
 use fancy_matches::found::Captures;
 use std::alloc::AllocError;
 
@@ -13,9 +15,15 @@ pub trait Replacer {
     ghost replacement_text: { Self → List ℕ → List ℕ → List ℕ };
 
     /// Appends what is written in the place of a match with these groups. After an error a part of it may stand there.
-    fn replace_append(&self, captures: &Captures<'_>, out: &mut String) -> Result<(), AllocError>
-        ensures { OnOk result (string_bytes out.new ≡ string_bytes out.old
-            ++ replacement_text self.now (captures_text captures.now) (numbers_in captures.now)) };
+    fn replace_append<O: Output>(
+        &self,
+        captures: &Captures<'_>,
+        out: &mut O,
+    ) -> Result<(), AllocError>
+        ensures { OnOk result (Grows
+            O.holds out.old
+            (replacement_text self.now (captures_text captures.now) (numbers_in captures.now))
+            out.new) };
 }
 
 /// A text as it stands: a `$` in it means nothing.
@@ -25,7 +33,11 @@ pub struct NoExpand<'a>(pub &'a str);
 impl<'a> Replacer for NoExpand<'a> {
     ghost replacement_text = { λ r text numbers. r.0.now };
 
-    fn replace_append(&self, _captures: &Captures<'_>, out: &mut String) -> Result<(), AllocError> {
-        out.push_str(self.0)
+    fn replace_append<O: Output>(
+        &self,
+        _captures: &Captures<'_>,
+        out: &mut O,
+    ) -> Result<(), AllocError> {
+        out.append(self.0)
     }
 }

@@ -1,14 +1,16 @@
 //! Replacements that are written as a text with references to groups.
 
-ghost use Rattle.std.specs.Prelude.{◌≡◌, ◌++◌, IfOk, IsTrue, OnOk, map, string_bytes};
+ghost use Rattle.std.specs.Prelude.{◌≡◌, IfOk, IsTrue, OnOk, map};
 ghost use Rattle.std.specs.Char.{is_ascii_digit};
 ghost use Rattle.std.specs.List.{list_all};
 ghost use Rattle.std.specs.Str.Parse.{digits_value};
 ghost use Rattle.fancy_analysis.specs.Names.{names_of};
 ghost use Rattle.fancy_matches.specs.Regexes.{captures_text, numbers_in};
+ghost use Rattle.fancy_replace.specs.Outputs.{Grows};
 ghost use Rattle.fancy_replace.specs.Reading as reading;
 ghost use Rattle.fancy_replace.specs.Templates as templates;
 
+use crate::output::Output;
 use crate::replacer::Replacer;
 use crate::tokens::{Token, Tokens};
 use fancy_matches::found::Captures;
@@ -67,7 +69,11 @@ impl Replacer for Template {
 
     ghost replacement_text = { λ template. template_text template };
 
-    fn replace_append(&self, captures: &Captures<'_>, out: &mut String) -> Result<(), AllocError> {
+    fn replace_append<O: Output>(
+        &self,
+        captures: &Captures<'_>,
+        out: &mut O,
+    ) -> Result<(), AllocError> {
         for segment in &self.segments {
             segment.append(captures, out)?;
         }
@@ -105,14 +111,15 @@ impl Segment {
     }
 
     /// Appends what it stands for.
-    fn append(&self, captures: &Captures<'_>, out: &mut String) -> Result<(), AllocError>
-        ensures { OnOk result (string_bytes out.new ≡ string_bytes out.old
-            ++ segment_text (captures_text captures.now) (numbers_in captures.now)
-            (segment_of self.now)) }
+    fn append<O: Output>(&self, captures: &Captures<'_>, out: &mut O) -> Result<(), AllocError>
+        ensures { OnOk result (Grows
+            O.holds out.old
+            (segment_text (captures_text captures.now) (numbers_in captures.now) (segment_of self.now))
+            out.new) }
     {
         match self {
-            Segment::Literal(text) => out.push_str(text.as_str()),
-            Segment::Groups(groups) => out.push_str(first_group_text(groups, captures)),
+            Segment::Literal(text) => out.append(text.as_str()),
+            Segment::Groups(groups) => out.append(first_group_text(groups, captures)),
         }
     }
 }

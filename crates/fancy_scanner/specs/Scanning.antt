@@ -16,7 +16,7 @@ use Rattle.fancy_steps.specs.declared.search_limits.SearchLimit.TheVariants as s
 use Rattle.fancy_steps.specs.declared.search_limits.SearchLimits.{SearchLimits}
 use Rattle.fancy_search.specs.Searches.{Bounds, Promises, input_of, instructions_of}
 use Rattle.fancy_search.specs.declared.search.SearchOptions.{SearchOptions}
-use Rattle.fancy_matches.specs.Listing.{backtracks_for, begun_at, options_for}
+use Rattle.fancy_matches.specs.Listing.{backtracks_for, begun_at, options_for, steps_for}
 use Rattle.fancy_matches.specs.Regexes.{IsNoLimit, IsRegexOf, numbers_in, captures_text}
 use Rattle.fancy_matches.specs.declared.regexes.Regex.{Regex}
 use Rattle.fancy_scanner.specs.Lasting.{IsLasting, is_anchored}
@@ -142,7 +142,7 @@ module _ (text : List ℕ) (pos : ℕ) where
 pub record IsEasyRun (text : List ℕ) (r : Rule) : Type 0 where
   pub tree : IsFalse (is_root_hard (plan r.input).analysis)
   pub backtracks : (r.options).backtrack_limit ≡ backtracks_for None text
-  pub steps : (r.options).step_limit ≡ 2 ^ 64 - 1
+  pub steps : (r.options).step_limit ≡ steps_for (2 ^ 64 - 1) text
 
 abbrev pub AreEasyRuns : List ℕ → List Rule → Type 0
 AreEasyRuns text [] = Unit {0}

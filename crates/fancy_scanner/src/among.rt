@@ -1,21 +1,18 @@
 //! A scan for some of the trees of a scanner, in an order of their own; and one more tree for a scan.
 
-ghost use Rattle.std.specs.Prelude.{◌≡◌, ◌<◌, ◌^◌, ◌++◌, ◌∷◌, [], ℕ, IfErr, IfOk, IfSome, IsTrue, List, None, OnErr, OnOk, length, option_map};
+ghost use Rattle.std.specs.Prelude.{◌≡◌, ◌<◌, ◌^◌, ◌++◌, ◌∷◌, [], ℕ, IfOk, IfSome, IsTrue, List, None, OnErr, OnOk, length, option_map};
 ghost use Rattle.fancy_meaning.specs.Places as places;
-ghost use Rattle.fancy_expr.specs.Sound.{IsWellFormedTree};
-ghost use Rattle.fancy_search.specs.Searches.{IsRefusedAs, input_of, search_fits};
 ghost use Rattle.fancy_scanner.specs.Among.{ArePicked, answers_among, among_result};
 ghost use Rattle.fancy_scanner.specs.Limits.{AreDistinct, TellsPassed, passed_among};
-ghost use Rattle.fancy_scanner.specs.Scanning.{AreEasy, AreEasyRuns, IsStoppedByDelegates, Rule, Scans, rule_of};
+ghost use Rattle.fancy_scanner.specs.Scanning.{AreEasy, AreEasyRuns, IsStoppedByDelegates, IsTreeOf, Rule, Scans};
 ghost use Rattle.fancy_scanner.specs.Scans as scans;
 ghost use Rattle.fancy_scanner.specs.Scans.{GoesOn, KeepsLoans, IsScanOf, KeepsHeld, text_of};
 
 use crate::scan_limit::limit_of;
 use crate::scan_text::{ScanStep, ScanText, TreeMatch, earlier};
-use crate::scanner::Stopped;
+use crate::scanner::{ScanTree, Stopped};
 use fancy_expr::error::Error;
-use fancy_expr::expr::ExprTree;
-use fancy_search::search::SearchOptions;
+use std::alloc::AllocError;
 
 impl<'t> ScanText<'_, 't> {
     /// The match that begins first, of the first matches of the trees with these numbers from this place on, a byte of the
@@ -75,24 +72,11 @@ impl<'t> ScanText<'_, 't> {
         Ok(ScanStep { found, stopped })
     }
 
-    /// One more tree, after the others, as `Scanner::add_tree` adds it; what was found of the others is kept.
-    pub fn add_tree(
-        &mut self,
-        tree: &ExprTree,
-        options: &SearchOptions,
-        backtrack_limit: Option<usize>,
-    ) -> Result<(), Error>
-        requires well_formed { IsWellFormedTree tree.now }
-        requires fits { IsTrue (search_fits options.now []) }
-        ensures ok { OnOk result ((rules : List Rule)
-            → IsScanOf rules self.old
-            → IsScanOf
-            (rules ++ rule_of tree.now options.now backtrack_limit (text_of self.old) ∷ [])
-            self.new) }
-        ensures refused { IfErr result
-            (IsRefusedAs
-            (input_of tree.now options.now.analysis options.now.compilation)
-            options.now.compilation.max_nesting) }
+    /// One more tree, after the others; what was found of the others is kept. The only error is out of memory.
+    pub fn push(&mut self, tree: ScanTree) -> Result<(), AllocError>
+        ensures ok { OnOk result ((rules : List Rule) (r : Rule)
+            → IsScanOf rules self.old → IsTreeOf r (text_of self.old) tree
+            → IsScanOf (rules ++ r ∷ []) self.new) }
         ensures err { OnErr result ((rules : List Rule)
             → IsScanOf rules self.old → IsScanOf rules self.new) }
         ensures held { (pos : ℕ) → KeepsHeld pos self.old self.new }
@@ -100,6 +84,6 @@ impl<'t> ScanText<'_, 't> {
         ensures loans { KeepsLoans self.old self.new }
     {
         self.cache.answers.truncate(self.scanner.tree_count());
-        self.scanner.add_tree(tree, options, backtrack_limit)
+        self.scanner.push(tree)
     }
 }

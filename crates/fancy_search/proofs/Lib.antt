@@ -1,2 +1,3 @@
 pub mod Searched
 pub mod Bounded
+pub mod TooShort

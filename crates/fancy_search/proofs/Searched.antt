@@ -1,5 +1,5 @@
 -- A search by the engine's calls answers as is promised.
-use Rattle.std.proofs.Common.{◌≡◌, ℕ, Bool, true, false, not, ◌&&◌, ◌||◌, List, length, Option, Some, None, Result, Ok, Err, refl, sym, ap, ◌∙◌, subst, le-leb}
+use Rattle.std.proofs.Common.{◌≡◌, ℕ, Bool, true, false, not, ◌&&◌, ◌||◌, List, length, Option, Some, None, Result, Ok, Err, refl, sym, ap, ◌∙◌, subst, le-leb, arith}
 use Rattle.std.specs.Prelude.{IfOk, IsUtf8}
 use Rattle.std.specs.declared.vec.Vec.{Vec}
 use Rattle.std.specs.declared.alloc.Global.{Global}
@@ -7,12 +7,14 @@ use Rattle.std.proofs.lemmas.Bool.{and_parts, and_from}
 use Rattle.std.proofs.lemmas.Str.{IsCharBoundary-start}
 use Rattle.std.specs.Str.{IsCharBoundary}
 use Rattle.regex.proofs.Utf8Lemmas.{test_of_IsCharBoundary}
+use Rattle.fancy_meaning.specs.Answer.{answer, search_of}
 use Rattle.fancy_meaning.specs.Instr as plain_program
 use Rattle.fancy_meaning.specs.Layout.{layout}
 use Rattle.fancy_meaning.specs.Machine as machine
 use Rattle.fancy_meaning.specs.Fits.{run_fits}
 use Rattle.fancy_meaning.specs.Places.{is_place}
-use Rattle.fancy_meaning.specs.Premises.{Analysed, Input, plan, IsAccepted}
+use Rattle.fancy_meaning.specs.Premises.{Analysed, Input, analysis, plan, tree_of, IsAccepted}
+use Rattle.fancy_meaning.specs.Sizes.{Size, size}
 use Rattle.fancy_meaning.specs.Promise.{IsRefused, by_analysis, by_compiler, by_regex}
 use Rattle.fancy_expr.specs.declared.error.Error.{Error}
 use Rattle.fancy_expr.specs.declared.error.Error.TheVariants as error
@@ -24,7 +26,7 @@ use Rattle.fancy_expr.specs.Views.{parsed_of}
 use Rattle.fancy_info.specs.declared.context.AnalyzeContext.{AnalyzeContext}
 use Rattle.fancy_info.specs.declared.info.Info.{Info}
 use Rattle.fancy_analysis.specs.Analyses.{IsAnalysisOf, IsRefusedAs}
-use Rattle.fancy_info.specs.Infos.{analysis_options_of}
+use Rattle.fancy_info.specs.Infos.{analysis_options_of, info_size}
 use Rattle.fancy_program.proofs.FitsLaws.{run_implicit}
 use Rattle.fancy_program.specs.declared.insn.Prog.{Prog}
 use Rattle.fancy_steps.specs.declared.options.RunOptions.{RunOptions}
@@ -34,6 +36,8 @@ use Rattle.fancy_steps.specs.Stops.{outcome_of}
 use Rattle.fancy_program.specs.Programs.{prog_of}
 use Rattle.fancy_steps.specs.Tasks.{task_of, options_of as run_options_of}
 use Rattle.fancy_compile.specs.declared.options.CompileOptions.{CompileOptions}
+use Rattle.fancy_compile.proofs.Known.{size_known}
+use Rattle.fancy_compile.proofs.Roots.{root_known}
 use Rattle.fancy_compile.specs.Compiled.{Compiles, MayAnswer, MayCompile, plan_with, refuses, too_big}
 use Rattle.fancy_search.specs.declared.search.Compiled.{Compiled}
 use Rattle.fancy_search.specs.Searches as searches
@@ -85,14 +89,19 @@ module _ (t : ExprTree) (context : AnalyzeContext) (o : CompileOptions) (ok : Is
   compiler_refused (error.TreeFault at) h = h
   compiler_refused error.NestLimitExceeded h = h
 
-  pub compiled_from : (i : Info) (prog : Prog) → IsAnalysisOf t (analysis_options_of context) i →
-      Compiles (plan_with analysed o) o.max_nesting (Ok prog) → IsCompiledFrom input (record { prog = prog })
-  compiled_from i prog h compiled = record {
+  pub compiled_from : (i : Info) (prog : Prog) (least : ℕ) → least ≡ (info_size i).least → IsAnalysisOf t (analysis_options_of context) i →
+      Compiles (plan_with analysed o) o.max_nesting (Ok prog) → IsCompiledFrom input (record { prog = prog; min_size = least })
+  compiled_from i prog least is h compiled = record {
     well_formed = ok.0;
     same_end_text = same_end_text;
     analysable = h.accepted;
     compilable = compiled.not_refused;
     program = compiled.layout;
+    least =
+        let whole = tree_of analysed in
+        let same = is ∙ ap (λ (z : Size). z.least)
+        (size_known i (analysis analysed) (root_known analysed i h.root) ∙ ap (size whole) (h.root).tree) in
+        omega (arith, same);
   }
 
 -- where group 0 is implicit, the tree is accepted
@@ -139,6 +148,10 @@ module _ (i : Input) (compiled : Compiled) (text : List ℕ) (o : RunOptions) (f
   run_promises (Err (error.CompileError e)) answers means = absurd answers
   run_promises (Err (error.TreeFault at)) answers means = absurd answers
   run_promises (Err error.NestLimitExceeded) answers means = absurd answers
+
+  -- so does a search that nothing is run for, since there is no match
+  pub none_promises : answer (search_of (plan i) text (run_options_of o)) ≡ None → Promises i text (run_options_of o) (Ok None)
+  none_promises none = (accepted_input, sym none)
 
 -- a refusal is one that is promised
 pub refusal_promises : (i : Input) (most : Option ℕ) (text : List ℕ) (o : RunOptions) (e : Error) → searches.IsRefusedAs i most e →

@@ -1,9 +1,10 @@
 -- The promise filled in for a search of the code: its input, its program, its reply, and what it was compiled from.
-use Rattle.std.specs.Prelude.{◌≡◌, ℕ, Bool, true, ◌&&◌, ◌||◌, not, List, Option, length, Result, Ok, Err}
+use Rattle.std.specs.Prelude.{◌≡◌, ◌≤◌, ℕ, Bool, true, ◌&&◌, ◌||◌, not, List, Option, length, Result, Ok, Err}
 use Rattle.std.specs.declared.vec.Vec.{Vec}
 use Rattle.std.specs.declared.alloc.Global.{Global}
 use Rattle.fancy_meaning.specs.Options as plain
 use Rattle.fancy_meaning.specs.Places.{is_place}
+use Rattle.fancy_meaning.specs.Sizes.{size}
 use Rattle.fancy_meaning.specs.Config.{Outcome, BacktrackLimitExceeded, StackOverflow, StepLimitExceeded}
 use Rattle.fancy_meaning.specs.Instr as plain_program
 use Rattle.fancy_meaning.specs.Machine as machine
@@ -126,6 +127,8 @@ module _ (i : Input) where
     pub analysable : (error : CompileError) → ¬ AnalysisRefuses i.parsed i.analysis error
     pub compilable : (error : CompileError) → ¬ CompileRefuses (plan i) (instructions_of i) error
     pub program : prog_of (program compiled) ≡ program_of i
+    -- each way of the tree takes as many characters
+    pub least : compiled.min_size ≤ (size (plan i).analysis.tree (plan i).analysis.tree).least
 
 -- it was compiled from some tree
 abbrev pub HasSource : Compiled → Type 0

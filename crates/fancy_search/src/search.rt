@@ -1,9 +1,11 @@
 //! `search`, `SearchOptions`, and `Compiled`, a tree that is compiled once and searched for many times.
 
-ghost use Rattle.std.specs.Prelude.{◌≡◌, ℕ, List, None, IfOk, IsTrue, IsUtf8, MatchResult, false, true};
+ghost use Rattle.std.specs.Prelude.{◌≡◌, ◌<◌, ◌-◌, ℕ, List, length, None, IfOk, IsTrue, IsUtf8, MatchResult, false, true};
 ghost use Rattle.fancy_meaning.specs.Fits.{run_fits};
 ghost use Rattle.fancy_meaning.specs.Options as plain;
-ghost use Rattle.fancy_meaning.specs.Premises.{Input};
+ghost use Rattle.fancy_meaning.specs.Answer.{answer, search_of};
+ghost use Rattle.fancy_meaning.specs.Places.{is_place};
+ghost use Rattle.fancy_meaning.specs.Premises.{Input, plan};
 ghost use Rattle.fancy_info.specs.Infos.{analysis_options_of};
 ghost use Rattle.fancy_compile.specs.Compiled.{compile_options_of};
 ghost use Rattle.fancy_expr.specs.Sound.{IsWellFormedTree};
@@ -90,12 +92,17 @@ impl Default for SearchOptions {
 /// A tree that was compiled for searches: its program.
 pub struct Compiled {
     prog: Prog,
+    /// How many characters each match takes at least.
+    min_size: usize,
 }
 
 // Not derived: whoever owns one calls this drop, and would prove a derived one again (docs/GATE.md).
 impl Drop for Compiled {
     fn drop(self) {
-        let Compiled { prog: _ } = self;
+        let Compiled {
+            prog: _,
+            min_size: _,
+        } = self;
     }
 }
 
@@ -121,8 +128,9 @@ impl Compiled {
             ¬ IsNestedOver (input_of tree.now context options) options.max_nesting) }
     {
         let info = analyze(alloc, tree, context)?;
+        let min_size = info.min_size();
         let prog = compile(alloc, &info, options)?;
-        Ok(Compiled { prog })
+        Ok(Compiled { prog, min_size })
     }
 
     /// The program.
@@ -136,8 +144,26 @@ impl Compiled {
     pub fn into_program(self) -> Prog
         ensures { result ≡ program self }
     {
-        let Compiled { prog } = self;
+        let Compiled { prog, min_size: _ } = self;
         prog
+    }
+
+    /// Fewer bytes are left from this byte of the text on than each match takes: a search from there has no match.
+    #[inline(always)]
+    pub fn is_too_short(&self, text: &str, pos: usize) -> bool
+        ensures { IsTrue result → (i : Input) (o : plain.RunOptions)
+            → IsCompiledFrom i self.now → IsTrue (is_place text.now pos) → o.pos ≡ pos
+            → answer (search_of (plan i) text.now o) ≡ None }
+    {
+        self.exceeds_rest(text, pos)
+    }
+
+    /// Each match takes more characters than bytes are left from this byte of the text on.
+    #[inline(always)]
+    fn exceeds_rest(&self, text: &str, pos: usize) -> bool
+        ensures { IsTrue result → length text.now - pos < self.now.min_size }
+    {
+        text.len().saturating_sub(pos) < self.min_size
     }
 
     /// A search of the text with these options may be made: `pos` is a character boundary of the text, and
@@ -149,7 +175,8 @@ impl Compiled {
     }
 
     /// Searches the text from `options.pos` on, a byte of it, for the tree that was compiled: start and end of each
-    /// group from 0 up, in bytes of the text, with `usize::MAX` for a group that is not set, or none.
+    /// group from 0 up, in bytes of the text, with `usize::MAX` for a group that is not set, or none. Where `is_too_short`
+    /// there is none, and nothing is run.
     ///
     /// A `RuntimeError` tells which limit was passed, and `Memory` that a request for memory was refused or a limit of
     /// the scratch was passed. The scratch may be used again after either. Where the whole tree is easy, limits of one backtrack and eight instructions for
@@ -171,6 +198,10 @@ impl Compiled {
         ensures limits { limits_of scratch.new ≡ limits_of scratch.old }
         ensures stays { StaysWithin result (passed_of scratch.new) }
     {
+        if self.is_too_short(text, options.pos) {
+            scratch.limit(scratch.limits());
+            return Ok(None);
+        }
         run(alloc, &self.prog, text, options, scratch)
     }
 
@@ -194,6 +225,10 @@ impl Compiled {
         ensures limits { limits_of scratch.new ≡ limits_of scratch.old }
         ensures stays { StaysWithin result (passed_of scratch.new) }
     {
+        if self.is_too_short(text, options.pos) {
+            scratch.limit(scratch.limits());
+            return Ok(false);
+        }
         run_into(alloc, &self.prog, text, options, scratch, numbers)
     }
 }

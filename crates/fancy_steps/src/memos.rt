@@ -1,6 +1,6 @@
 //! What searches and one-pass matches of delegates have noted, for later ones of the same run.
 
-ghost use Rattle.std.specs.Prelude.{◌≡◌, ◌<◌, Some, None, length, max, slice_get, slice_set, IfOk, IsTrue, OnOk};
+ghost use Rattle.std.specs.Prelude.{◌≡◌, ◌<◌, ◌+◌, ◌/◌, if◌then◌else◌, min, nat_lt, Some, None, length, max, slice_get, slice_set, IfOk, IsTrue, OnOk};
 ghost use Rattle.fancy_meaning.specs.Places.{is_place};
 ghost use Rattle.fancy_fragments.specs.Fragments.{HasNoWayFrom, IsFirstWayOf, IsOnePassOf, IsOnePassWayOf, joined_nfa};
 ghost use Rattle.fancy_plain.specs.FoundEnds.{ChoicesEndAt, ChoicesLead};
@@ -9,7 +9,7 @@ ghost use Rattle.fancy_plain.specs.Ways.{HasAscending};
 ghost use Rattle.fancy_steps.specs.MemoRuns.{AddsNoMemo, AreOfRuns};
 ghost use Rattle.fancy_steps.specs.SearchEnds.{AreEndsOf};
 
-use crate::far_matches::FarMatches;
+use crate::far_matches::{FREE_PASSES, FarMatches, passed};
 use crate::machine::Task;
 use crate::search_limits::SearchCost;
 use fancy_backtrack::memo::Memo;
@@ -62,8 +62,10 @@ pub struct Memos {
     by_place: Vec<Option<RunMemo>>,
     /// The number of this run.
     run: u64,
-    /// What its searches took.
+    /// What its searches took, and what its walks did beyond what is free.
     cost: SearchCost,
+    /// What its walks and comparisons cost, in visits.
+    read: usize,
     /// The groups of the last way that took one pass, or was found by `held_way`.
     groups: GroupSpans,
     /// How often one pass over a fragment with groups told nothing in this run.
@@ -84,6 +86,7 @@ impl Drop for Memos {
             by_place: _,
             run: _,
             cost: _,
+            read: _,
             groups: _,
             unknown: _,
             again: _,
@@ -156,7 +159,7 @@ fn ends_or_none(
 impl Memos {
     ghost use Rattle.fancy_steps.specs.declared.machine.Task as tasks;
     ghost use Rattle.fancy_steps.specs.Memos.{AreMemosOf, IsNoteOf, fragment_at};
-    ghost use Rattle.fancy_steps.specs.SearchLimits.{no_cost};
+    ghost use Rattle.fancy_steps.specs.SearchLimits.{is_past, no_cost};
 
     /// Nothing is noted.
     pub fn new(alloc: Global) -> Memos
@@ -166,6 +169,7 @@ impl Memos {
             by_place: Vec::new(alloc),
             run: 0,
             cost: SearchCost::none(),
+            read: 0,
             groups: GroupSpans::new(alloc),
             unknown: 0,
             again: MOST_AGAIN,
@@ -186,6 +190,46 @@ impl Memos {
         ensures { self.new.cost ≡ no_cost }
     {
         self.cost = SearchCost::none();
+        self.read = 0;
+    }
+
+    /// Counts what a walk or a comparison of this run cost, in visits.
+    #[inline(always)]
+    pub(crate) fn count_read(&mut self, read: usize)
+        ensures memos { (task : tasks.Task) → AreMemosOf task self.old → AreMemosOf task self.new }
+        ensures read { self.new.read ≡ min usize.MAX (self.old.read + read) }
+        ensures groups { self.new.groups ≡ self.old.groups }
+    {
+        self.read = self.read.saturating_add(read);
+    }
+
+    /// What was counted so, once it is more than is free; then it is counted as visits, and else nothing yet.
+    #[inline(always)]
+    fn due(&self, task: &Task<'_>) -> usize
+        ensures { result ≡ (if nat_lt (length task.now.text.now) (self.now.read / FREE_PASSES)
+            then self.now.read else 0) }
+    {
+        if self.read / FREE_PASSES > task.text.len() {
+            self.read
+        } else {
+            0
+        }
+    }
+
+    /// The run has more visits than its limit allows.
+    #[inline(always)]
+    pub(crate) fn are_too_many(&mut self, task: &Task<'_>) -> bool
+        ensures past { result ≡ is_past task.now.limits.visits self.new.cost.visits }
+        ensures memos { (t : tasks.Task) → AreMemosOf t self.old → AreMemosOf t self.new }
+        ensures groups { self.new.groups ≡ self.old.groups }
+    {
+        let due = self.due(task);
+        self.read = self.read.saturating_sub(due);
+        self.cost.visits = self.cost.visits.saturating_add(due as u64);
+        match task.limits.visits {
+            None => false,
+            Some(most) => most < self.cost.visits,
+        }
     }
 
     /// The machine of this run holds so many bytes besides. What is more counts.
@@ -255,7 +299,7 @@ impl Memos {
     }
 
     /// The first way from `ix` of the fragment at `pc` of the program: by one pass, or else by a search with what earlier
-    /// ones have noted in this run. Its groups are held. It is not known where memory is refused.
+    /// ones have noted in this run. Its groups are held. It is not known where memory is refused or visits are too many.
     pub fn held_way(
         &mut self,
         task: &Task<'_>,
@@ -272,6 +316,9 @@ impl Memos {
     {
         if !fragment.nfa().can_begin(task.text, ix) {
             return OnePass::Fails;
+        }
+        if self.are_too_many(task) {
+            return OnePass::Unknown;
         }
         match self.one_pass_way(task, fragment, pc, ix) {
             Ok(OnePass::Unknown) => self.searched_way(task, fragment, pc, ix),
@@ -338,15 +385,18 @@ impl Memos {
             });
             return Ok(OnePass::Unknown);
         };
+        let before = cache.read();
         let way = fragment
             .nfa()
             .one_pass_end_kept(task.alloc, task.text, ix, &mut cache);
+        let read = cache.read().saturating_sub(before);
         self.by_place[pc] = Some(RunMemo {
             memo,
             kept: Some(cache),
             ends,
             run,
         });
+        self.read = self.read.saturating_add(read);
         way
     }
 
@@ -435,12 +485,17 @@ impl Memos {
         ensures memos { AreMemosOf task.now self.new }
     {
         let nfa = fragment.nfa();
-        match self.noted(pc) {
-            Noted::Nothing if !nfa.counts_long() => {}
-            Noted::Memo => return nfa.one_pass_way(task.alloc, task.text, ix, &mut self.groups),
+        let is_memoized = match self.noted(pc) {
+            Noted::Nothing if !nfa.counts_long() => false,
+            Noted::Memo => true,
             _ => return self.kept_way(task, fragment, pc, ix),
+        };
+        let mut read = 0;
+        let way = nfa.one_pass_way(task.alloc, task.text, ix, &mut self.groups, &mut read)?;
+        self.read = self.read.saturating_add(passed(read));
+        if is_memoized {
+            return Ok(way);
         }
-        let way = nfa.one_pass_way(task.alloc, task.text, ix, &mut self.groups)?;
         if let OnePass::Ends(end) = way {
             self.count_match(task, fragment, pc, ix, end)?;
         }
@@ -478,15 +533,18 @@ impl Memos {
             });
             return Ok(OnePass::Unknown);
         };
+        let before = cache.read();
         let way = fragment
             .nfa()
             .one_pass_way_kept(task.alloc, task.text, ix, &mut self.groups, &mut cache);
+        let read = cache.read().saturating_sub(before);
         self.by_place[pc] = Some(RunMemo {
             memo,
             kept: Some(cache),
             ends,
             run,
         });
+        self.read = self.read.saturating_add(read);
         way
     }
 
@@ -681,13 +739,16 @@ impl Memos {
             });
             return Ok(OnePass::Unknown);
         };
+        let before = (*cache).read();
         let way = kept_joined_end(task.alloc, fragment, task.text, ix, &mut *cache);
+        let read = (*cache).read().saturating_sub(before);
         self.by_place[pc] = Some(RunMemo {
             memo,
             kept,
             ends: Some(cache),
             run,
         });
+        self.read = self.read.saturating_add(read);
         self.vain = match &way {
             Ok(OnePass::Unknown) => self.vain.saturating_add(1),
             _ => 0,

@@ -22,7 +22,7 @@ enum Kind {
 }
 
 /// Each option: its name, its letter if it has one, what is written, and what it says.
-static OPTIONS: [(&str, Option<char>, Kind, &str); 19] = [
+static OPTIONS: [(&str, Option<char>, Kind, &str); 23] = [
     (
         "fixed-strings",
         Some('F'),
@@ -123,19 +123,43 @@ static OPTIONS: [(&str, Option<char>, Kind, &str); 19] = [
         "recursive",
         Some('r'),
         Kind::Flag,
-        "Search folders, but for hidden and binary files",
+        "Search folders, but for hidden files",
+    ),
+    (
+        "backtracks",
+        None,
+        Kind::Number,
+        "Backtrack N times in a line at most [default: 20000000, and 1 for each byte]",
+    ),
+    (
+        "steps",
+        None,
+        Kind::Number,
+        "Execute N instructions for a line at most [default: 100000000, and 8 for each byte]",
     ),
     (
         "visits",
         None,
         Kind::Number,
-        "Visit so many states in a line at most [if left out 100000000]",
+        "Visit N states of plain parts of the pattern in a line at most [default: 50000000]",
     ),
     (
         "memory",
         None,
         Kind::Bytes,
-        "Keep so many bytes for them at most [if left out 268435456]",
+        "Keep BYTES for a search at most [default: 268435456]",
+    ),
+    (
+        "max-prog",
+        None,
+        Kind::Number,
+        "Compile PATTERN to N instructions at most [default: 1000000]",
+    ),
+    (
+        "analysis-limit",
+        None,
+        Kind::Number,
+        "Look at N nodes in the analysis of PATTERN at most [default: 5000000]",
     ),
 ];
 
@@ -145,13 +169,17 @@ fn argument<'a>(
     letter: Option<char>,
     kind: Kind,
     help: &'a str,
-) -> Arg<'a> {
-    let long = Arg::new(alloc, name).long(name).help(help);
+) -> Result<Arg<'a>, AllocError> {
+    // Given twice, the last one counts.
+    let long = Arg::new(alloc, name)
+        .long(name)
+        .help(help)
+        .overrides_with(name)?;
     let word = match letter {
         Some(letter) => long.short(letter),
         None => long,
     };
-    match kind {
+    Ok(match kind {
         Kind::Flag => word.action(ArgAction::SetTrue),
         Kind::Number => word.value_name("N").value_parser(value_parser!(u64)),
         Kind::Bytes => word.value_name("BYTES").value_parser(value_parser!(u64)),
@@ -161,7 +189,7 @@ fn argument<'a>(
             .num_args(0..=1)
             .require_equals(true)
             .default_missing_value("auto"),
-    }
+    })
 }
 
 /// The whole command.
@@ -175,13 +203,14 @@ pub fn command<'a>(alloc: Global) -> Result<Command<'a>, AllocError> {
         .help("The files");
     let mut command = Command::new(alloc, "fancygrep")
         .about(ABOUT)
+        .version("0.4.0")
         .after_help(AFTER)
         .bin_name("fancygrep")?
         .no_binary_name(true)
         .arg(pattern)?
         .arg(files)?;
     for (name, letter, kind, help) in &OPTIONS {
-        command = command.arg(argument(alloc, name, *letter, *kind, help))?;
+        command = command.arg(argument(alloc, name, *letter, *kind, help)?)?;
     }
     Ok(command)
 }

@@ -5,7 +5,7 @@ use crate::commands::command;
 use clap::{ArgMatches, Error};
 use fancy_grep::context::Context;
 use fancy_grep::files::search;
-use fancy_grep::patterns::{Extent, MOST_MEMORY, MOST_VISITS, PatternOptions};
+use fancy_grep::patterns::{Extent, Limits, PatternOptions};
 use fancy_grep::settings::{Report, Settings};
 use std::alloc::{AllocError, Global};
 use std::env;
@@ -31,14 +31,25 @@ fn extent(matches: &ArgMatches<'_>) -> Extent {
     }
 }
 
+/// The limits that are given.
+fn limits(matches: &ArgMatches<'_>) -> Limits {
+    Limits {
+        backtracks: matches.get_one::<usize>("backtracks"),
+        steps: matches.get_one::<u64>("steps"),
+        visits: matches.get_one::<usize>("visits"),
+        memory: matches.get_one::<usize>("memory"),
+        max_prog: matches.get_one::<usize>("max-prog"),
+        analysis: matches.get_one::<usize>("analysis-limit"),
+    }
+}
+
 fn pattern(matches: &ArgMatches<'_>) -> PatternOptions {
     PatternOptions {
         is_text: matches.get_flag("fixed-strings"),
         case_insensitive: matches.get_flag("ignore-case"),
         longest: matches.get_flag("longest"),
         extent: extent(matches),
-        visit_limit: matches.get_one::<usize>("visits").unwrap_or(MOST_VISITS),
-        memory_limit: matches.get_one::<usize>("memory").unwrap_or(MOST_MEMORY),
+        limits: limits(matches),
     }
 }
 
@@ -105,10 +116,17 @@ fn search_by(rt: &HostRuntime, matches: &ArgMatches<'_>) -> Result<u8, AllocErro
     Ok(search(rt, pattern, &settings, &paths))
 }
 
-/// Writes the help that is asked for, or what is wrong with the words.
+/// Writes the help that is asked for, or what is wrong with the words, and returns the status: 3 if the help cannot be
+/// written.
 fn tell(rt: &HostRuntime, error: &Error) -> u8 {
-    let _unwritten = error.print(rt);
-    if error.use_stderr() { 2 } else { 0 }
+    let printed = error.print(rt);
+    if error.use_stderr() {
+        2
+    } else if printed.is_ok() {
+        0
+    } else {
+        3
+    }
 }
 
 /// What the words of one search come to: the status.
@@ -123,7 +141,7 @@ pub fn search_for(rt: &HostRuntime, words: &[String]) -> u8 {
     match status {
         Ok(status) => status,
         Err(_) => {
-            let _unwritten = eprintln!(rt; "fancygrep: memory ran out");
+            let _unwritten = eprintln!(rt; "fancygrep: out of memory");
             2
         }
     }

@@ -3,20 +3,22 @@
 use clap::{Arg, ArgAction, Command, value_parser};
 use std::alloc::{AllocError, Global};
 
-const ABOUT: &str = "Shows what a pattern finds in a text, and what becomes of the pattern";
+const VERSION: &str = "0.4.0";
+
+const ABOUT: &str = "Shows what a pattern matches in a text, and what the pattern is compiled to";
 
 const AFTER: &str =
-    "A pattern is written as docs/PATTERNS.md says, as a(b|bc)d; with --tree a tree, as docs/MEANING.md says. \
-Status 0: there is an answer, also that there is no match; 1: the pattern or the search is refused; \
-2: the words or files ask nothing; 3: a write failed.";
+    "docs/PATTERNS.md has the syntax of patterns, and docs/MEANING.md that of trees (--tree). \
+Exit status: 0 if there is a result, also if there is no match; 1 if the pattern or the search is refused; \
+2 if the command line or a file is invalid; 3 if a write failed.";
 
 const WHY: &str =
     "Why there is no match: how much of the pattern matches, and what does not follow";
 
-const TRACE: &str = "Each instruction that a run executes, 1000 at most without --steps";
+const TRACE: &str = "Each step of the search, at most 1000 steps without --steps";
 
 const NODES: &str =
-    "What is known of each node of the tree that the pattern spells, or which node is refused";
+    "The syntax tree of the pattern, with what is known of each node, or the node that is refused";
 
 const PICTURE: &str =
     "The program of the pattern as a picture, in SVG or for Graphviz, or the pattern as a railroad diagram";
@@ -24,9 +26,16 @@ const PICTURE: &str =
 const HIGHLIGHT: &str =
     "A text by the rules of a language, in the shape of a TextMate grammar, as text, colours, HTML or tokens";
 
-const BATCH: &str = "Each line of a file as a command line of its own, in which ' quotes";
+const BATCH: &str = "Runs each line of a file as a command line, in which ' quotes";
 
-const WITH: &str = "What is written for a match: $1 is its group 1, $0 all of it, $$ a dollar sign";
+const WITH: &str =
+    "The replacement of a match: $1 is group 1, $0 the whole match, $$ a dollar sign";
+
+const BACKTRACKS: &str =
+    "At most N backtracks in a search [default: 20000000, and one more for each start]";
+
+const STEPS: &str =
+    "At most N steps in a search [default: 100000000, and eight more for each start; trace: 1000]";
 
 /// What a part takes.
 #[derive(Clone, Copy, PartialEq, Eq)]
@@ -40,9 +49,9 @@ enum Takes {
     Template,
     /// A pattern, a text and the place where the search begins.
     Place,
-    /// The same, and a run is shown that has no limits on its delegates.
+    /// The same, and a run is shown that has no limits on its easy parts.
     Run,
-    /// A pattern and a text, and a search has limits on its delegates.
+    /// A pattern and a text, and a search has limits on its easy parts.
     Search,
     /// A text alone.
     TextAlone,
@@ -117,7 +126,7 @@ static PARTS: [(&str, Takes, &str); 11] = [
 ];
 
 /// Each argument: its name, the parts that take it, what is written, and what it says.
-static ARGUMENTS: [(&str, Takes, Kind, &str); 28] = [
+static ARGUMENTS: [(&str, Takes, Kind, &str); 29] = [
     ("PATTERN", Takes::Pattern, Kind::Word, "The pattern"),
     (
         "tree",
@@ -135,49 +144,49 @@ static ARGUMENTS: [(&str, Takes, Kind, &str); 28] = [
         "tree-file",
         Takes::Pattern,
         Kind::File,
-        "Read the tree from a file, in which line ends separate too",
+        "Read the tree from a file, in which line ends count as spaces",
     ),
     (
         "compile-anchored",
         Takes::Pattern,
         Kind::Flag,
-        "Compile for the first place alone",
+        "Compile for matches where the search begins only",
     ),
     (
         "not-empty",
         Takes::Pattern,
         Kind::Flag,
-        "A match has to take something",
+        "Find no empty match",
     ),
     (
         "end-text",
         Takes::Pattern,
         Kind::Flag,
-        "No empty match at the end of a text after a newline",
+        "Find no empty match at the end of a text after a newline",
     ),
     (
         "ascii",
         Takes::Pattern,
         Kind::Flag,
-        "Folding, word characters and classes go by ASCII",
+        "Use ASCII for case folding, word characters and classes",
     ),
     (
         "longest",
         Takes::Pattern,
         Kind::Flag,
-        "Of the matches at the earliest start, the longest",
+        "Find the longest of the matches at the earliest start",
     ),
     (
         "max-prog",
         Takes::Pattern,
         Kind::Number,
-        "At most so many instructions in the program [if left out 1000000]",
+        "At most N instructions in the program [default: 1000000]",
     ),
     (
-        "lookups",
+        "analysis-limit",
         Takes::Pattern,
         Kind::Number,
-        "At most so many sizes of groups looked up in the analysis [if left out 20000000]",
+        "At most N nodes that the analysis looks at [default: 5000000]",
     ),
     (
         "TEXT",
@@ -189,43 +198,33 @@ static ARGUMENTS: [(&str, Takes, Kind, &str); 28] = [
         "file",
         Takes::TextAlone,
         Kind::File,
-        "Read the text from a file, or for - from standard input",
+        "Read the text from a file, or from standard input for -",
     ),
     (
         "anchored",
         Takes::Text,
         Kind::Flag,
-        "Try the first place alone",
+        "Match only where the search begins",
     ),
     (
         "not-continued",
         Takes::Text,
         Kind::Flag,
-        "No match ended where the search begins",
+        "No earlier match ended where the search begins",
     ),
-    (
-        "backtracks",
-        Takes::Text,
-        Kind::Number,
-        "At most so many backtracks [if left out 1000000, and one more for each start]",
-    ),
-    (
-        "steps",
-        Takes::Text,
-        Kind::Number,
-        "At most so many instructions",
-    ),
+    ("backtracks", Takes::Text, Kind::Number, BACKTRACKS),
+    ("steps", Takes::Text, Kind::Number, STEPS),
     (
         "visits",
         Takes::Search,
         Kind::Number,
-        "At most so many states of easy parts in a search [if left out 100000000]",
+        "At most N visits of states of easy parts in a search [default: 20000000]",
     ),
     (
         "memory",
         Takes::Search,
         Kind::Bytes,
-        "At most so many bytes that a search keeps for them [if left out 268435456]",
+        "At most BYTES that a search keeps for easy parts [default: 268435456]",
     ),
     (
         "pos",
@@ -234,6 +233,12 @@ static ARGUMENTS: [(&str, Takes, Kind, &str); 28] = [
         "Begin at this byte of the text",
     ),
     ("with", Takes::Template, Kind::Template, WITH),
+    (
+        "max-output",
+        Takes::Template,
+        Kind::Bytes,
+        "At most BYTES in the result [default: 268435456]",
+    ),
     (
         "dot",
         Takes::Picture,
@@ -244,7 +249,7 @@ static ARGUMENTS: [(&str, Takes, Kind, &str); 28] = [
         "railroad",
         Takes::Picture,
         Kind::Flag,
-        "Draw the tree as a railroad diagram in place of the program",
+        "Draw the pattern as a railroad diagram in place of the program",
     ),
     (
         "rules",
@@ -345,6 +350,7 @@ fn parts<'a>(alloc: Global) -> Result<Vec<Command<'a>>, AllocError> {
 /// The command without its parts.
 fn bare_command<'a>(alloc: Global) -> Result<Command<'a>, AllocError> {
     Command::new(alloc, "fancyshow")
+        .version(VERSION)
         .about(ABOUT)
         .after_help(AFTER)
         .no_binary_name(true)

@@ -3,9 +3,10 @@
 ghost use Rattle.fancy_expr.specs.Sound.{IsWellFormedTree};
 
 use crate::excerpt::push_times;
+use crate::faults::tree_refusal;
 use crate::no_match::no_match;
 use crate::outcome::Trouble;
-use crate::refusals::{refusal, search_refusal};
+use crate::refusals::search_refusal;
 use crate::request::Request;
 use crate::source::read;
 use fancy_characters::places::is_place;
@@ -34,7 +35,7 @@ fn regex(alloc: Global, request: &Request, tree: &ExprTree) -> Result<Regex, Tro
             regex.limit(request.limits);
             Ok(regex)
         }
-        Err(error) => Err(refusal(alloc, request.source.as_str(), &error)),
+        Err(error) => Err(tree_refusal(alloc, request, tree, &error)),
     }
 }
 
@@ -120,11 +121,9 @@ pub fn push_groups(
     Ok(())
 }
 
-/// The trouble of a place inside a character, or behind the text.
+/// The trouble of a place inside a character, or after the text.
 pub fn no_place(alloc: Global, pos: usize) -> Result<Trouble, AllocError> {
-    Ok(Trouble::Words(format!(in alloc;
-        "byte {pos} is no place of the text, where a character begins"
-    )?))
+    Ok(Trouble::Words(format!(in alloc; "no character of the text begins at byte {pos}")?))
 }
 
 /// The first match from the place on where the search is to begin, and the groups of the tree.

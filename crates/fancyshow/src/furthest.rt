@@ -1,6 +1,6 @@
 //! How far the attempts of a run come.
 
-use crate::marks::mark_at;
+use crate::marks::{MarkedLeaf, mark_at};
 use fancy_expr::error::Error;
 use fancy_vm::vm::{Insn, Prog, Progress, RunOptions, Stepper};
 use std::alloc::Global;
@@ -8,11 +8,14 @@ use std::alloc::Global;
 /// So many leaves are told of those that fail in one place.
 const MOST_WANTED: usize = 8;
 
-/// The attempt that comes furthest: where it begins, how far it comes, and the leaves that fail there, by their marks.
+/// The attempt that gets furthest in the tree, and of several the one that matches most: where it begins, how far it gets,
+/// and the leaves that fail there, by their marks.
 #[derive(Clone, Copy)]
 pub struct Furthest {
     pub start: usize,
     pub at: usize,
+    /// The depth of the deepest of these leaves.
+    depth: usize,
     /// The marks, as many as are counted.
     marks: [usize; MOST_WANTED],
     count: usize,
@@ -28,6 +31,7 @@ impl Furthest {
         Furthest {
             start,
             at: start,
+            depth: 0,
             marks: [0; MOST_WANTED],
             count: 0,
             last: 0,
@@ -40,7 +44,7 @@ impl Furthest {
         self.marks.get(..self.count).unwrap_or(&[])
     }
 
-    /// How many bytes the attempt takes.
+    /// How many bytes the attempt matches.
     fn len(&self) -> usize {
         self.at.saturating_sub(self.start)
     }
@@ -49,10 +53,11 @@ impl Furthest {
         start == self.start && at == self.at
     }
 
-    /// Whether an attempt that began at `start` takes more, or as much and fails at a later leaf of the tree.
+    /// Whether an attempt that began at `start` gets further in the tree, or as far and matches more, or as much and fails at
+    /// a later leaf.
     fn is_passed_by(&self, start: usize, leaf: Leaf) -> bool {
         let len = leaf.at.saturating_sub(start);
-        len > self.len() || (len == self.len() && leaf.mark > self.last)
+        (leaf.depth, len, leaf.mark) > (self.depth, self.len(), self.last)
     }
 
     /// A leaf fails at this place, in an attempt that began at `start`.
@@ -62,26 +67,29 @@ impl Furthest {
             self.last = 0;
             self.start = start;
             self.at = leaf.at;
+            self.depth = leaf.depth;
         }
         if self.is_at(start, leaf.at) && !self.wanted().contains(&leaf.mark) {
-            self.add_mark(leaf.mark);
+            self.add_leaf(leaf);
         }
     }
 
-    /// Adds a mark, where there is room for it.
-    fn add_mark(&mut self, mark: usize) {
+    /// Adds the mark of a leaf, if there is room for it.
+    fn add_leaf(&mut self, leaf: Leaf) {
         if let Some(free) = self.marks.get_mut(self.count) {
-            *free = mark;
+            *free = leaf.mark;
             self.count = self.count.saturating_add(1);
-            self.last = self.last.max(mark);
+            self.last = self.last.max(leaf.mark);
+            self.depth = self.depth.max(leaf.depth);
         }
     }
 }
 
-/// The leaf that is being tried: its mark, the place, and how many branches there were.
+/// The leaf that is being tried: its mark and depth, the place, and how many branches there were.
 #[derive(Clone, Copy)]
 struct Leaf {
     mark: usize,
+    depth: usize,
     at: usize,
     branches: usize,
 }
@@ -90,18 +98,28 @@ struct Leaf {
 #[derive(Clone, Copy)]
 struct Watch<'p> {
     prog: &'p Prog,
+    leaves: &'p [MarkedLeaf<'p>],
     start: usize,
     leaf: Option<Leaf>,
     furthest: Furthest,
 }
 
 impl Watch<'_> {
+    /// The depth of the leaf with this mark.
+    fn depth_of(&self, mark: usize) -> usize {
+        match self.leaves.get(mark.saturating_sub(1)) {
+            Some(leaf) => leaf.depth,
+            None => 0,
+        }
+    }
+
     /// Before an instruction is executed.
     fn look(&mut self, stepper: &Stepper<'_>) {
         let place = stepper.pc();
         if let Some(mark) = mark_at(self.prog, place) {
             self.leaf = Some(Leaf {
                 mark,
+                depth: self.depth_of(mark),
                 at: stepper.ix(),
                 branches: stepper.branches(),
             });
@@ -154,10 +172,11 @@ impl Watch<'_> {
     }
 }
 
-/// The attempt of the run that comes furthest, of those in so many instructions; none where the run cannot begin.
+/// The attempt of the run that gets furthest, of those in so many steps; none if the run cannot begin.
 pub fn watch_run(
     alloc: Global,
     prog: &Prog,
+    leaves: &[MarkedLeaf<'_>],
     text: &str,
     options: &RunOptions,
     most: u64,
@@ -168,6 +187,7 @@ pub fn watch_run(
     let stepper = Stepper::new(alloc, prog, text, options)?;
     let mut watch = Watch {
         prog,
+        leaves,
         start: options.pos,
         leaf: None,
         furthest: Furthest::at_start(options.pos),

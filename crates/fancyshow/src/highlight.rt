@@ -1,15 +1,16 @@
 //! A text highlighted by the rules of a language.
 
 use crate::html::{FOOT, HEAD};
+use crate::omitted::push_warnings;
 use crate::outcome::Trouble;
 use crate::request::{read_file, text_alone};
-use crate::styles::style_of;
-use crate::tokens::names;
-use crate::{html, terminal, tokens};
+use crate::styles::{Style, style_at, styles_of};
+use crate::tokens::push_tokens;
+use crate::{html, terminal};
 use clap::ArgMatches;
-use fancy_highlight::error::{GrammarError, HighlightError};
+use fancy_highlight::error::GrammarError;
 use fancy_highlight::highlighter::Highlighter;
-use fancy_highlight::tokens::{Highlights, Token};
+use fancy_highlight::tokens::Highlights;
 use std::alloc::{AllocError, Global};
 
 /// How the tokens of a text are written.
@@ -51,76 +52,89 @@ fn refused_rules(alloc: Global, path: &str, error: &GrammarError) -> Result<Trou
     }
 }
 
-/// The trouble that an error of a text is.
-fn refused_text(alloc: Global, error: &HighlightError) -> Result<Trouble, AllocError> {
-    Ok(Trouble::Refusal(format!(in alloc; "{error}")?))
-}
-
-/// Writes a token with these names as the form asks for.
-fn push_token(
+/// Writes a part of the text in its style.
+fn push_styled(
     out: &mut String,
     form: Form,
-    token: Token,
-    text: &str,
-    names: &[&str],
+    part: &str,
+    style: Option<Style>,
 ) -> Result<(), AllocError> {
-    let part = text.get(token.start..token.end).unwrap_or("");
     match form {
-        Form::Page => html::push_styled(out, part, style_of(names)),
-        Form::Tokens => tokens::push_token(out, token, part, names),
-        Form::Coloured => terminal::push_styled(out, part, style_of(names)),
-        Form::Plain => out.push_str(part),
+        Form::Page => html::push_styled(out, part, style),
+        Form::Coloured => terminal::push_styled(out, part, style),
+        Form::Tokens | Form::Plain => out.push_str(part),
     }
 }
 
-/// Writes each token as the form asks for.
-fn push_tokens(
+/// Writes each token in the style of its scope.
+fn push_all_styled(
     out: &mut String,
-    alloc: Global,
     form: Form,
-    highlighter: &Highlighter,
+    styles: &[Option<Style>],
     highlights: &Highlights,
     text: &str,
 ) -> Result<(), AllocError> {
     for token in &highlights.tokens {
-        let names = names(alloc, highlighter, &highlights.scopes, token.scope)?;
-        push_token(out, form, *token, text, &names)?;
+        let part = text.get(token.start..token.end).unwrap_or("");
+        push_styled(out, form, part, style_at(styles, token.scope))?;
     }
     Ok(())
 }
 
-/// Writes the text as the form asks for.
-fn push_highlighted(
-    out: &mut String,
+/// The text with colours, as a page or as it is.
+fn styled(
     alloc: Global,
     form: Form,
     highlighter: &Highlighter,
     highlights: &Highlights,
     text: &str,
-) -> Result<(), AllocError> {
+) -> Result<String, AllocError> {
     let (head, foot) = match form {
         Form::Page => (HEAD, FOOT),
         _ => ("", ""),
     };
-    out.push_str(head)?;
-    push_tokens(out, alloc, form, highlighter, highlights, text)?;
-    out.push_str(foot)
+    let styles = styles_of(alloc, highlighter, &highlights.scopes)?;
+    let mut out = String::from_str(alloc, head)?;
+    push_all_styled(&mut out, form, &styles, highlights, text)?;
+    out.push_str(foot)?;
+    Ok(out)
 }
 
-/// The text as the form asks for, or the trouble of it.
+/// The text as the form asks for.
+fn shown(
+    alloc: Global,
+    form: Form,
+    highlighter: &Highlighter,
+    highlights: &Highlights,
+    text: &str,
+) -> Result<String, Trouble> {
+    match form {
+        Form::Tokens => {
+            let mut out = String::new(alloc);
+            push_tokens(&mut out, alloc, highlighter, highlights, text)?;
+            Ok(out)
+        }
+        _ => Ok(styled(alloc, form, highlighter, highlights, text)?),
+    }
+}
+
+/// The text as the form asks for, with a warning of each rule that is left out.
 fn highlighted(
     alloc: Global,
+    path: &str,
     form: Form,
     highlighter: &mut Highlighter,
     text: &str,
 ) -> Result<String, Trouble> {
-    match highlighter.highlight(text) {
-        Ok(highlights) => {
-            let mut out = String::new(alloc);
-            push_highlighted(&mut out, alloc, form, highlighter, &highlights, text)?;
-            Ok(out)
-        }
-        Err(error) => Err(refused_text(alloc, &error)?),
+    let highlights = highlighter.highlight(text)?;
+    let out = shown(alloc, form, highlighter, &highlights, text)?;
+    let mut warning = String::new(alloc);
+    push_warnings(&mut warning, path, highlighter.left_out(), false)?;
+    push_warnings(&mut warning, path, &highlights.left_out, true)?;
+    if warning.is_empty() {
+        Ok(out)
+    } else {
+        Err(Trouble::Warned { out, warning })
     }
 }
 
@@ -133,5 +147,6 @@ pub fn highlight(
     let mut highlighter = highlighter(rt, matches)?;
     let text = text_alone(rt, matches)?;
     let form = form_of(matches, colours);
-    highlighted(rt.alloc(), form, &mut highlighter, text.as_str())
+    let path = matches.get_str("rules").unwrap_or("");
+    highlighted(rt.alloc(), path, form, &mut highlighter, text.as_str())
 }

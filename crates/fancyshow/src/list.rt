@@ -2,10 +2,10 @@
 
 ghost use Rattle.fancy_expr.specs.Sound.{IsWellFormedTree};
 
+use crate::faults::tree_refusal;
 use crate::find::Groups;
 use crate::insns::push_noted;
 use crate::outcome::Trouble;
-use crate::refusals::refusal;
 use crate::request::Request;
 use crate::source::read;
 use fancy_command::arguments::Arguments;
@@ -35,7 +35,7 @@ fn compile_or_say(alloc: Global, request: &Request, tree: &ExprTree) -> Result<P
 {
     match compile(alloc, &request.arguments, tree) {
         Ok(prog) => Ok(prog),
-        Err(error) => Err(refusal(alloc, request.source.as_str(), &error)),
+        Err(error) => Err(tree_refusal(alloc, request, tree, &error)),
     }
 }
 

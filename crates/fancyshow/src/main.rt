@@ -8,6 +8,7 @@ mod blame;
 mod commands;
 mod dot;
 mod excerpt;
+mod faults;
 mod find;
 mod furthest;
 mod highlight;
@@ -17,6 +18,7 @@ mod list;
 mod marks;
 mod no_match;
 mod nodes;
+mod omitted;
 mod outcome;
 mod pieces;
 mod railroad;
@@ -65,9 +67,9 @@ fn write(rt: &HostRuntime, outcome: &Outcome) -> u8 {
     }
 }
 
-/// Memory ran out, and there is nothing to write but that.
+/// There is no memory left, and nothing to write but that.
 fn refuse(rt: &HostRuntime) -> u8 {
-    let _unwritten = rt.stderr().write_all(b"fancyshow: memory ran out\n");
+    let _unwritten = rt.stderr().write_all(b"fancyshow: out of memory\n");
     1
 }
 
@@ -78,7 +80,7 @@ fn main(rt: HostRuntime) -> ExitCode {
         Err(_) => {
             let _unwritten = rt
                 .stderr()
-                .write_all(b"error: a word of the command line is no text in UTF-8\n");
+                .write_all(b"error: an argument is not valid UTF-8\n");
             return ExitCode::from(2);
         }
     };

@@ -19,12 +19,14 @@ const MOST_LEAVES: usize = 50_000;
 pub const MOST_LEVELS: usize = 1_010;
 
 /// A node that has a mark, and which leaves of the tree it is or has below it: from this one up to another, counted without
-/// those that are empty.
+/// those that are empty. Its depth is how many nodes with marks are on the way to it from the tree's start: of the
+/// alternatives that are passed, the longest counts.
 #[derive(Clone, Copy)]
 pub struct MarkedLeaf<'e> {
     pub expr: &'e Expr,
     pub first: usize,
     pub end: usize,
+    pub depth: usize,
 }
 
 /// The text of a tree, and what has marks in it, from mark 1 on. Mark 0 is of no node.
@@ -34,6 +36,8 @@ pub struct Marked<'e> {
     pub leaves: Vec<MarkedLeaf<'e>>,
     /// How many leaves are written that are not empty.
     pub passed: usize,
+    /// The depth of the next node with a mark.
+    depth: usize,
 }
 
 /// Whether the node has no node below it, and is not empty.
@@ -58,6 +62,11 @@ fn has_marks_below(expr: &Expr, i: usize) -> bool {
     }
 }
 
+/// Whether the nodes below this one are alternatives, which all begin at the same depth.
+fn has_alternatives(expr: &Expr) -> bool {
+    matches!(expr, Expr::Alt(_) | Expr::Conditional { .. })
+}
+
 /// The characters of a child that follows a literal of a sequence, and is one that is folded alike.
 fn joined(expr: &Expr, i: usize) -> Option<&str> {
     let Expr::Concat(parts) = expr else {
@@ -77,6 +86,7 @@ impl<'e> Marked<'e> {
             text: String::new(alloc),
             leaves: Vec::new(alloc),
             passed: 0,
+            depth: 0,
         }
     }
 
@@ -99,7 +109,9 @@ impl<'e> Marked<'e> {
             expr,
             first: self.passed,
             end: self.passed,
+            depth: self.depth,
         })?;
+        self.depth = self.depth.saturating_add(1);
         Ok(self.leaves.len())
     }
 
@@ -135,6 +147,8 @@ impl<'e> Marked<'e> {
         let is_open = has_marks && self.open(expr)?;
         self.count(expr);
         push_head(&mut self.text, expr)?;
+        let start = self.depth;
+        let mut deepest = start;
         for i in 0..part_count(expr) {
             if !has_marks && self.join(expr, i)? {
                 continue;
@@ -142,7 +156,14 @@ impl<'e> Marked<'e> {
             self.text.push(' ')?;
             let below = has_marks && has_marks_below(expr, i);
             self.push_node(part(expr, i), below, levels - 1)?;
+            deepest = deepest.max(self.depth);
+            self.depth = if has_alternatives(expr) {
+                start
+            } else {
+                deepest
+            };
         }
+        self.depth = deepest;
         self.close(expr, is_open)
     }
 

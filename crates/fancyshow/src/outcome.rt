@@ -94,7 +94,7 @@ impl Outcome {
                 status: 1,
             }),
             Trouble::Warned { out, warning } => Outcome::warned(alloc, out, warning.as_str()),
-            Trouble::Memory => Outcome::refused(alloc, "memory ran out", 1),
+            Trouble::Memory => Outcome::refused(alloc, "out of memory", 1),
         }
     }
 

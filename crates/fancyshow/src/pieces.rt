@@ -2,23 +2,36 @@
 
 use crate::find::{Searcher, searcher_of};
 use crate::outcome::Trouble;
+use crate::refusals::over_output_limit;
 use crate::request::Request;
 use fancy_expr::error::Error;
-use fancy_replace::replace::replace_all;
+use fancy_replace::output::BoundedText;
+use fancy_replace::replace::replace_into;
 use fancy_replace::split::split;
 use fancy_replace::template::Template;
 use std::alloc::{AllocError, Global};
 
-/// The text with what the template writes in the place of each match.
+/// What is written in the place of matches, and how many bytes the text may have then.
+#[derive(Clone, Copy)]
+pub struct Replacement<'r> {
+    pub template: &'r str,
+    pub most: usize,
+}
+
+/// The text with what the template writes in the place of each match; none if it has too many bytes.
 fn replaced_by(
     alloc: Global,
     searcher: &mut Searcher,
     text: &str,
-    template: &str,
-) -> Result<String, Error> {
-    let template = Template::new(alloc, template, &searcher.numbers)?;
-    let made = replace_all(alloc, &mut searcher.regex, text, &template)?;
-    Ok(String::from_str(alloc, made.as_ref())?)
+    replacement: Replacement<'_>,
+) -> Result<Option<String>, Error> {
+    let template = Template::new(alloc, replacement.template, &searcher.numbers)?;
+    let mut out = BoundedText::new(alloc, replacement.most);
+    if replace_into(&mut searcher.regex, text, 0, &template, &mut out)? {
+        Ok(out.into_text())
+    } else {
+        Ok(Some(String::from_str(alloc, text)?))
+    }
 }
 
 /// The digits that a text begins with, and the letters, digits and `_` behind them.
@@ -77,11 +90,12 @@ fn replaced_text(
     alloc: Global,
     request: &Request,
     text: &str,
-    template: &str,
+    replacement: Replacement<'_>,
 ) -> Result<String, Trouble> {
     let mut searcher = searcher_of(alloc, request)?;
-    match replaced_by(alloc, &mut searcher, text, template) {
-        Ok(out) => Ok(out),
+    match replaced_by(alloc, &mut searcher, text, replacement) {
+        Ok(Some(out)) => Ok(out),
+        Ok(None) => Err(over_output_limit(alloc)?),
         Err(error) => Err(searcher.refusal(alloc, request, &error)),
     }
 }
@@ -91,13 +105,13 @@ pub fn replaced(
     alloc: Global,
     request: &Request,
     text: &str,
-    template: &str,
+    replacement: Replacement<'_>,
 ) -> Result<String, Trouble> {
-    let mut out = replaced_text(alloc, request, text, template)?;
+    let mut out = replaced_text(alloc, request, text, replacement)?;
     if !out.as_str().ends_with('\n') {
         out.push('\n')?;
     }
-    warned(alloc, out, template)
+    warned(alloc, out, replacement.template)
 }
 
 /// Writes a piece in quotes, on a line.

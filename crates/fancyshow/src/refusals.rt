@@ -3,53 +3,59 @@
 use crate::excerpt::push_excerpt;
 use crate::outcome::Trouble;
 use crate::wants::{Wanted, wanted_at};
-use fancy_expr::error::{CompileError, Error, RuntimeError};
+use fancy_expr::error::{Error, RuntimeError};
 use fancy_pattern::error::PatternError;
 use fancy_vm::vm::SearchLimit;
 use std::alloc::{AllocError, Global};
 
-/// Where the tree cannot be read on, and what was wanted there.
+/// Where the tree cannot be read on, and what was expected there.
 fn fault(alloc: Global, tree: &str, at: usize) -> Result<Trouble, Error> {
-    let Wanted { at: place, words } = wanted_at(alloc, tree, at)?;
-    let mut text = format!(in alloc; "the tree cannot be read from byte {at} on")?;
-    push_excerpt(&mut text, tree, place)?;
-    write!(text, "\n  wanted here: {words}")?;
+    let Wanted { at, words } = wanted_at(alloc, tree, at)?;
+    let mut text = format!(in alloc;
+        "the tree cannot be read, at byte {at}: expected {words} (TreeFault)"
+    )?;
+    push_excerpt(&mut text, tree, at)?;
     Ok(Trouble::Refusal(text))
 }
 
-/// What may help a search that gave up.
+/// Which limit a search exceeds.
+fn limit_text(limit: RuntimeError) -> &'static str {
+    match limit {
+        RuntimeError::BacktrackLimitExceeded => "the search exceeds the backtrack limit",
+        RuntimeError::StepLimitExceeded => "the search exceeds the step limit",
+        RuntimeError::StackOverflow => "the search saves more than 1000000 branches",
+    }
+}
+
+/// Why a run has no result.
+pub fn error_text(error: &Error) -> &'static str {
+    match error {
+        Error::RuntimeError(limit) => limit_text(*limit),
+        _ => "out of memory",
+    }
+}
+
+/// What may help a search that exceeds the limit.
 fn help(limit: RuntimeError) -> &'static str {
     match limit {
-        RuntimeError::BacktrackLimitExceeded => "--backtracks N allows more",
-        RuntimeError::StepLimitExceeded => "--steps N allows more",
-        RuntimeError::StackOverflow => "the limit is 1000000",
+        RuntimeError::BacktrackLimitExceeded => "\n  --backtracks N allows more",
+        RuntimeError::StepLimitExceeded => "\n  --steps N allows more",
+        RuntimeError::StackOverflow => "",
     }
 }
 
-/// What may help where a tree is refused.
-fn refusal_help(refused: &CompileError) -> &'static str {
-    match refused {
-        CompileError::PatternTooComplex => "--max-prog N allows more",
-        _ => "fancyshow tree shows where",
-    }
-}
-
-/// Why the tree is refused.
-fn compile_fault(alloc: Global, refused: &CompileError) -> Result<Trouble, Error> {
-    let help = refusal_help(refused);
-    Ok(Trouble::Refusal(format!(in alloc; "{refused} ({refused:?})\n  {help}")?))
-}
-
-/// Which limit the search passed.
+/// Which limit the search exceeds, and what may help.
 fn limit_fault(alloc: Global, limit: RuntimeError) -> Result<Trouble, Error> {
-    let help = help(limit);
-    Ok(Trouble::Refusal(format!(in alloc; "{limit} ({limit:?})\n  {help}")?))
+    let (text, help) = (limit_text(limit), help(limit));
+    Ok(Trouble::Refusal(format!(in alloc; "{text} ({limit:?}){help}")?))
 }
 
 fn explained(alloc: Global, tree: &str, error: &Error) -> Result<Trouble, Error> {
     match error {
         Error::TreeFault { at } => fault(alloc, tree, *at),
-        Error::CompileError(refused) => compile_fault(alloc, refused),
+        Error::CompileError(refused) => {
+            Ok(Trouble::Refusal(format!(in alloc; "{refused} ({refused:?})")?))
+        }
         Error::RuntimeError(limit) => limit_fault(alloc, *limit),
         Error::NestLimitExceeded => Ok(Trouble::Refusal(format!(in alloc; "{error} ({error:?})")?)),
         Error::Memory => Ok(Trouble::Memory),
@@ -64,27 +70,27 @@ pub fn refusal(alloc: Global, tree: &str, error: &Error) -> Trouble {
     }
 }
 
-/// What is said of a limit of delegates that was passed, and what may help.
-fn passed_text(limit: SearchLimit) -> &'static str {
+/// Which limit the easy parts of a search exceed, and what may help.
+fn exceeded_text(limit: SearchLimit) -> &'static str {
     match limit {
         SearchLimit::Visits => {
-            "too many states were visited (VisitLimitExceeded)\n  --visits N allows more"
+            "the search exceeds the visit limit (VisitLimitExceeded)\n  --visits N allows more"
         }
         SearchLimit::Bytes => {
-            "too much memory was held (MemoryLimitExceeded)\n  --memory BYTES allows more"
+            "the search exceeds the memory limit (MemoryLimitExceeded)\n  --memory BYTES allows more"
         }
     }
 }
 
-/// The trouble that an error of a search is, which passed this limit of its delegates, or none.
+/// The trouble that an error of a search is, whose easy parts exceed this limit, or none.
 pub fn search_refusal(
     alloc: Global,
     tree: &str,
     error: &Error,
-    passed: Option<SearchLimit>,
+    exceeded: Option<SearchLimit>,
 ) -> Trouble {
-    match (error, passed) {
-        (Error::Memory, Some(limit)) => match String::from_str(alloc, passed_text(limit)) {
+    match (error, exceeded) {
+        (Error::Memory, Some(limit)) => match String::from_str(alloc, exceeded_text(limit)) {
             Ok(text) => Trouble::Refusal(text),
             Err(_) => Trouble::Memory,
         },
@@ -123,16 +129,23 @@ pub fn too_large(alloc: Global, what: &str, most: usize, of: &str) -> Result<Tro
     )?))
 }
 
-/// The trouble of a tree whose groups refer to one another too often.
-pub fn too_many_lookups(alloc: Global) -> Result<Trouble, AllocError> {
+/// The trouble of a tree whose analysis exceeds its limit.
+pub fn over_analysis_limit(alloc: Global) -> Result<Trouble, AllocError> {
     let why =
-        "the groups refer to one another too often (AnalysisLimitExceeded)\n  --lookups N allows more";
+        "the analysis of the pattern exceeds its limit (AnalysisLimitExceeded)\n  --analysis-limit N allows more";
+    Ok(Trouble::Refusal(String::from_str(alloc, why)?))
+}
+
+/// The trouble of a text that exceeds its limit once its matches are replaced.
+pub fn over_output_limit(alloc: Global) -> Result<Trouble, AllocError> {
+    let why =
+        "the result exceeds the output limit (OutputLimitExceeded)\n  --max-output BYTES allows more";
     Ok(Trouble::Refusal(String::from_str(alloc, why)?))
 }
 
 /// The trouble of a tree that nests too deep.
 pub fn too_deep(alloc: Global, most: usize) -> Result<Trouble, AllocError> {
     Ok(Trouble::Refusal(format!(in alloc;
-        "more than {most} parentheses are open at one place (RecursionExceeded)"
+        "parentheses nest deeper than {most} (RecursionExceeded)"
     )?))
 }

@@ -11,14 +11,17 @@ use std::{fs, io};
 /// How many instructions the program of a pattern or a tree may have, unless said otherwise.
 const MOST_INSTRUCTIONS: usize = 1_000_000;
 
-/// How often the analysis of a tree may look up the size of a group, unless said otherwise.
-const MOST_LOOKUPS: usize = 20_000_000;
+/// How many nodes the analysis of a tree may look at, unless said otherwise.
+const MOST_ANALYSED: usize = 5_000_000;
 
 /// How many states of easy parts a search may visit, unless said otherwise.
-const MOST_VISITS: u64 = 100_000_000;
+const MOST_VISITS: u64 = 20_000_000;
 
-/// How many bytes it may keep for them at one time, unless said otherwise.
+/// How many bytes a search may keep for them at one time, unless said otherwise.
 const MOST_MEMORY: usize = 268_435_456;
+
+/// How many bytes a text may have whose matches are replaced, unless said otherwise.
+const MOST_OUTPUT: usize = 268_435_456;
 
 /// A pattern or a tree, and how it is analysed, compiled and searched for.
 #[derive(Drop)]
@@ -27,8 +30,8 @@ pub struct Request {
     /// The source is a tree, and no pattern.
     pub is_tree: bool,
     pub arguments: Arguments,
-    /// How often the analysis of the tree may look up the size of a group.
-    pub lookups: usize,
+    /// How many nodes the analysis of the tree may look at.
+    pub analysis_limit: usize,
     /// How much the delegates of a search may take together.
     pub limits: SearchLimits,
 }
@@ -98,7 +101,7 @@ fn source<'a>(
         Some(word) => Ok((String::from_str(rt.alloc(), word)?, second)),
         None => Err(missing(
             rt.alloc(),
-            "there is no pattern: give PATTERN, --pattern-file FILE or --tree-file FILE",
+            "there is no pattern: expected PATTERN, --pattern-file FILE or --tree-file FILE",
         )?),
     }
 }
@@ -154,7 +157,9 @@ fn read_request<'a>(
         source: prepared(rt.alloc(), source.as_str(), is_tree)?,
         is_tree,
         arguments: arguments(matches),
-        lookups: matches.get_one::<usize>("lookups").unwrap_or(MOST_LOOKUPS),
+        analysis_limit: matches
+            .get_one::<usize>("analysis-limit")
+            .unwrap_or(MOST_ANALYSED),
         limits: limits(matches),
     };
     Ok((request, word))
@@ -205,6 +210,13 @@ fn limits(matches: &ArgMatches<'_>) -> SearchLimits {
         visits: Some(matches.get_one::<u64>("visits").unwrap_or(MOST_VISITS)),
         bytes: Some(matches.get_one::<usize>("memory").unwrap_or(MOST_MEMORY)),
     }
+}
+
+/// How many bytes the text may have in which matches are replaced.
+pub fn output_limit(matches: &ArgMatches<'_>) -> usize {
+    matches
+        .get_one::<usize>("max-output")
+        .unwrap_or(MOST_OUTPUT)
 }
 
 /// What is asked of a pattern or a tree alone.

@@ -8,10 +8,10 @@ use crate::find::find;
 use crate::highlight::highlight;
 use crate::list::{Shown, list, program};
 use crate::outcome::{Outcome, Trouble};
-use crate::pieces::{pieces, replaced};
+use crate::pieces::{Replacement, pieces, replaced};
 use crate::railroad::railroad;
 use crate::refusals::too_large;
-use crate::request::{Request, read_file, read_input, text_request, tree_request};
+use crate::request::{Request, output_limit, read_file, read_input, text_request, tree_request};
 use crate::svg::{MOST_BOXES, svg};
 use crate::trace::trace;
 use crate::tree::tree;
@@ -130,13 +130,16 @@ fn answer_of_text(
 /// Reads what is to be replaced, and by what, and replaces it.
 fn replacement(rt: &HostRuntime, matches: &ArgMatches<'_>) -> Result<String, Trouble> {
     let (request, text) = text_request(rt, matches)?;
-    let template = matches.get_str("with").unwrap_or("");
-    replaced(rt.alloc(), &request, text.as_str(), template)
+    let replacement = Replacement {
+        template: matches.get_str("with").unwrap_or(""),
+        most: output_limit(matches),
+    };
+    replaced(rt.alloc(), &request, text.as_str(), replacement)
 }
 
 /// A batch has none in it.
 fn nested_batch(alloc: Global) -> Result<String, Trouble> {
-    let why = "this part cannot stand in a batch";
+    let why = "a batch cannot contain this command";
     Err(Trouble::Words(String::from_str(alloc, why)?))
 }
 

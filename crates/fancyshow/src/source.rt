@@ -4,9 +4,9 @@ ghost use Rattle.std.specs.Prelude.{IfOk};
 ghost use Rattle.fancy_expr.specs.Sound.{IsWellFormedTree};
 
 use crate::outcome::Trouble;
-use crate::refusals::{pattern_refusal, refusal, too_deep, too_many_lookups};
+use crate::refusals::{over_analysis_limit, pattern_refusal, refusal, too_deep};
 use crate::request::Request;
-use fancy_analysis::lookups::is_looked_up_within;
+use fancy_analysis::limit::is_analysis_within;
 use fancy_command::command::MOST_DEPTH;
 use fancy_expr::expr::ExprTree;
 use fancy_notation::depth::depth;
@@ -29,10 +29,10 @@ pub fn read(alloc: Global, request: &Request) -> Result<ExprTree, Trouble>
     } else {
         tree_of_pattern(alloc, source, !request.arguments.ascii)?
     };
-    if is_looked_up_within(&tree, request.lookups) {
+    if is_analysis_within(alloc, &tree, request.analysis_limit)? {
         Ok(tree)
     } else {
-        Err(too_many_lookups(alloc)?)
+        Err(over_analysis_limit(alloc)?)
     }
 }
 

@@ -1,5 +1,9 @@
 //! How tokens look, by the names of their scopes.
 
+use fancy_highlight::highlighter::Highlighter;
+use fancy_highlight::scopes::{Scope, Scopes};
+use std::alloc::{AllocError, Global};
+
 /// How a token looks: a class of the page, and a code of terminals.
 #[derive(Clone, Copy)]
 pub struct Style {
@@ -133,12 +137,36 @@ fn style_of_name(name: &str) -> Option<Style> {
     None
 }
 
-/// The style of a scope with these names: of the first that has one.
-pub fn style_of(names: &[&str]) -> Option<Style> {
-    for name in names {
-        if let Some(style) = style_of_name(name) {
-            return Some(style);
-        }
+/// The style of this scope, if it has one.
+pub fn style_at(styles: &[Option<Style>], scope: usize) -> Option<Style> {
+    match styles.get(scope) {
+        Some(style) => *style,
+        None => None,
     }
-    None
+}
+
+/// The style of a scope: that of its own name, or else that of the scope around it.
+fn style_of(highlighter: &Highlighter, styles: &[Option<Style>], scope: Scope) -> Option<Style> {
+    let own = match highlighter.name(scope.name) {
+        Some(name) => style_of_name(name),
+        None => None,
+    };
+    match (own, scope.outer) {
+        (None, Some(outer)) => style_at(styles, outer),
+        _ => own,
+    }
+}
+
+/// The style of each scope, by its number.
+pub fn styles_of(
+    alloc: Global,
+    highlighter: &Highlighter,
+    scopes: &Scopes,
+) -> Result<Vec<Option<Style>>, AllocError> {
+    let mut styles = Vec::new(alloc);
+    for scope in scopes.as_slice() {
+        let style = style_of(highlighter, &styles, *scope);
+        styles.push(style)?;
+    }
+    Ok(styles)
 }

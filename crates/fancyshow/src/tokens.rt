@@ -1,12 +1,13 @@
 //! The tokens of a text, one on a line.
 
+use crate::outcome::Trouble;
 use fancy_highlight::highlighter::Highlighter;
 use fancy_highlight::scopes::Scopes;
-use fancy_highlight::tokens::Token;
+use fancy_highlight::tokens::{Highlights, Token};
 use std::alloc::{AllocError, Global};
 
 /// The names of a scope, the innermost first.
-pub fn names<'h>(
+fn names<'h>(
     alloc: Global,
     highlighter: &'h Highlighter,
     scopes: &Scopes,
@@ -34,9 +35,12 @@ fn push_names(out: &mut String, names: &[&str]) -> Result<(), AllocError> {
     Ok(())
 }
 
+/// How many bytes the lines of all tokens may have.
+const MOST_BYTES: usize = 268_435_456;
+
 /// Writes a token on a line: its first byte, the byte past its last, its text, and the names of its scopes, the
 /// outermost first.
-pub fn push_token(
+fn push_token(
     out: &mut String,
     token: Token,
     part: &str,
@@ -46,4 +50,29 @@ pub fn push_token(
     write!(out, "{start}..{end} {part:?}")?;
     push_names(out, names)?;
     out.push('\n')
+}
+
+/// Writes each token of the text on a line, or the refusal of more lines than may be written.
+pub fn push_tokens(
+    out: &mut String,
+    alloc: Global,
+    highlighter: &Highlighter,
+    highlights: &Highlights,
+    text: &str,
+) -> Result<(), Trouble> {
+    for token in &highlights.tokens {
+        let part = text.get(token.start..token.end).unwrap_or("");
+        let names = names(alloc, highlighter, &highlights.scopes, token.scope)?;
+        push_token(out, *token, part, &names)?;
+        if out.len() > MOST_BYTES {
+            return Err(too_long(alloc, token.start)?);
+        }
+    }
+    Ok(())
+}
+
+fn too_long(alloc: Global, start: usize) -> Result<Trouble, AllocError> {
+    Ok(Trouble::Refusal(format!(in alloc;
+        "the lines of the tokens up to byte {start} of the text have more than {MOST_BYTES} bytes"
+    )?))
 }

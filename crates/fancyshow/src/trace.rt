@@ -5,7 +5,7 @@ use crate::find::{no_place, push_taken};
 use crate::insns::push_noted;
 use crate::list::{Shown, program};
 use crate::outcome::Trouble;
-use crate::refusals::refusal;
+use crate::refusals::{error_text, refusal};
 use crate::request::Request;
 use fancy_expr::error::Error;
 use fancy_railroad::names::GroupNames;
@@ -14,6 +14,9 @@ use std::alloc::{AllocError, Global};
 
 /// How many instructions a run may execute where nothing else is said.
 const MOST_STEPS: u64 = 1_000;
+
+/// How many backtracks it may make, and one more for each start.
+const MOST_BACKTRACKS: usize = 20_000_000;
 
 const HEAD: &str = "    step    byte  text at the byte        branches  backtracks  instruction\n";
 
@@ -134,10 +137,14 @@ fn push_numbers(
     Ok(())
 }
 
-/// How the program is run: with an end, for what is printed.
-fn options(request: &Request) -> RunOptions {
+/// How the program is run in a text with so many starts: with an end, for what is printed.
+fn options(request: &Request, starts: usize) -> RunOptions {
     let options = request.arguments.running();
     RunOptions {
+        backtrack_limit: request
+            .arguments
+            .backtracks
+            .unwrap_or(MOST_BACKTRACKS.saturating_add(starts)),
         step_limit: request.arguments.steps.unwrap_or(MOST_STEPS),
         ..options
     }
@@ -159,7 +166,10 @@ fn push_steps(
             Ok(Progress::Ends(found)) => {
                 return push_numbers(out, run.text, &run.shown.groups.names, &found);
             }
-            Err(error) => return writeln!(out, "{error}"),
+            Err(error) => {
+                let text = error_text(&error);
+                return writeln!(out, "{text}");
+            }
         }
     }
     Ok(())
@@ -185,7 +195,7 @@ fn written(
 
 /// Each instruction that the run executes, and last what it answers.
 pub fn trace(alloc: Global, request: &Request, text: &str) -> Result<String, Trouble> {
-    let options = options(request);
+    let options = options(request, text.len().saturating_add(1));
     let written = {
         let shown = program(alloc, request)?;
         written(alloc, &shown, text, &options)

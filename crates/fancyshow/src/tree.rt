@@ -2,8 +2,9 @@
 
 ghost use Rattle.fancy_expr.specs.Sound.{IsWellFormedTree};
 
-use crate::blame::{Whole, is_blamed};
+use crate::blame::{Node, Whole, is_blamed};
 use crate::excerpt::{push_shown, push_times, push_to_column};
+use crate::faults::words as refusal_words;
 use crate::list::compile;
 use crate::marks::is_plain;
 use crate::nodes::{group_of, push_node};
@@ -15,7 +16,7 @@ use fancy_analysis::analyze::analyze;
 use fancy_command::command::MOST_DEPTH;
 use fancy_expr::error::{CompileError, Error};
 use fancy_expr::expr::{Expr, ExprTree};
-use fancy_expr::parts::{part, part_count};
+use fancy_expr::parts::part_count;
 use fancy_info::info::Info;
 use fancy_railroad::names::GroupNames;
 use std::alloc::{AllocError, Global};
@@ -25,14 +26,6 @@ const COLUMN: usize = 36;
 
 /// A text that is read is at most `MOST_DEPTH` deep, and its tree two levels deeper.
 const MOST_LEVELS: usize = MOST_DEPTH + 3;
-
-/// A node, its number where it is a group, and what the analysis says of it, where it says anything.
-#[derive(Clone, Copy)]
-struct Node<'i, 'a> {
-    expr: &'a Expr,
-    group: usize,
-    info: Option<&'i Info<'a>>,
-}
 
 /// What is written about a tree.
 #[derive(Drop)]
@@ -130,19 +123,24 @@ impl Page<'_, '_> {
 
     /// Marks the node where the refusal speaks of it.
     fn push_blame(&mut self, node: Node<'_, '_>) -> Result<(), AllocError> {
-        if let Some(refused) = self.refused {
-            if is_blamed(self.alloc, refused, node.expr, node.group, self.tree)? {
-                self.blamed = self.blamed.saturating_add(1);
-                write!(self.out, "  <- {refused}")?;
-            }
+        let Some(refused) = self.refused else {
+            return Ok(());
+        };
+        if !is_blamed(refused, node, self.tree) {
+            return Ok(());
         }
-        Ok(())
+        self.blamed = self.blamed.saturating_add(1);
+        let words = refusal_words(self.alloc, refused, Some(node.expr))?;
+        write!(self.out, "  <- {words}")
     }
 
     /// Writes why the tree is refused, where no node was marked.
     fn push_refusal(&mut self) -> Result<(), AllocError> {
         match self.refused {
-            Some(refused) if self.blamed == 0 => writeln!(self.out, "refused: {refused}"),
+            Some(refused) if self.blamed == 0 => {
+                let words = refusal_words(self.alloc, refused, None)?;
+                writeln!(self.out, "refused: {words}")
+            }
             _ => Ok(()),
         }
     }
@@ -170,12 +168,8 @@ impl Page<'_, '_> {
             _ => node.group,
         };
         for i in 0..part_count(node.expr) {
-            let below = Node {
-                expr: part(node.expr, i),
-                group,
-                info: node.info.and_then(|info| info.children().get(i)),
-            };
-            group = self.push_all(below, indent.saturating_add(2), levels - 1)?;
+            let child = node.child(i, group);
+            group = self.push_all(child, indent.saturating_add(2), levels - 1)?;
         }
         Ok(group)
     }

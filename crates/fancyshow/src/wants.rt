@@ -23,7 +23,7 @@ struct Part {
     count: usize,
 }
 
-const TREE: &str = "a tree: a word, a quoted text or a form in parentheses";
+const TREE: &str = "a tree, which is a word, a quoted text or a form in parentheses";
 
 const CLOSE: &str = "a closing parenthesis";
 
@@ -31,9 +31,10 @@ const TREE_OR_CLOSE: &str = "a tree, or a closing parenthesis";
 
 const NUMBER: &str = "a number";
 
-const QUOTE: &str = "a quote, which ends the text";
+const QUOTE: &str = "a quote that ends the text";
 
-const ESCAPE: &str = "an escape: \\\" \\\\ \\n \\r or \\u{..}, with the number of a character";
+const ESCAPE: &str =
+    "one of the escapes \\\" \\\\ \\n \\r and \\u{..} with the number of a character";
 
 const WORD: &str = "a word that begins a form, as cat, alt, grp, rep or set";
 
@@ -48,8 +49,8 @@ fn trees(count: usize, wanted: usize) -> &'static str {
 
 fn of_loop(count: usize) -> &'static str {
     match count {
-        0 => "a number: how often at least",
-        1 => "a number that is not less, or *: how often at most",
+        0 => "a number, the least count",
+        1 => "a number that is not less, or *, the greatest count",
         2 => TREE,
         _ => CLOSE,
     }
@@ -62,7 +63,7 @@ fn of_word(count: usize, word: &'static str) -> &'static str {
 fn of_level(count: usize) -> &'static str {
     match count {
         0 => NUMBER,
-        1 => "a level: a number that may be negative",
+        1 => "a level, which is a number and may be negative",
         _ => CLOSE,
     }
 }
@@ -87,7 +88,7 @@ fn of_form(form: Form, count: usize) -> &'static str {
 fn of_part(part: Part) -> &'static str {
     match part.head {
         Head::Text if part.count == 0 => TREE,
-        Head::Text => "nothing more: the tree has ended",
+        Head::Text => "the end of the tree",
         Head::Parenthesis => WORD,
         Head::Form(form) => of_form(form, part.count),
     }

@@ -32,20 +32,20 @@ fn watched(arguments: &Arguments) -> Arguments {
     }
 }
 
-/// How far the attempts come, for the text of a marked tree.
+/// How far the attempts get, for a marked tree.
 fn watch(
     alloc: Global,
-    marked: &str,
+    marked: &Marked<'_>,
     arguments: &Arguments,
     text: &str,
 ) -> Result<Option<Furthest>, Error> {
-    let tree = read_tree(alloc, marked)?;
+    let tree = read_tree(alloc, marked.text.as_str())?;
     let prog = compile(alloc, arguments, &tree)?;
     let options = RunOptions {
         step_limit: MOST_STEPS,
         ..arguments.running()
     };
-    watch_run(alloc, &prog, text, &options, MOST_STEPS)
+    watch_run(alloc, &prog, &marked.leaves, text, &options, MOST_STEPS)
 }
 
 /// A literal in quotes.
@@ -109,9 +109,9 @@ fn all_wanted(
 fn push_attempt(out: &mut String, text: &str, furthest: &Furthest) -> Result<(), AllocError> {
     let (start, at) = (furthest.start, furthest.at);
     if start == at {
-        return write!(out, "no attempt takes a character\nat byte {at} ");
+        return write!(out, "no attempt matches a character\nat byte {at} ");
     }
-    write!(out, "the attempt that comes furthest takes {start}..{at}  ")?;
+    write!(out, "the furthest attempt matches {start}..{at}  ")?;
     push_taken(out, text.get(start..at).unwrap_or(""))?;
     out.push_str("\nand ")
 }
@@ -141,7 +141,7 @@ fn push_end(out: &mut String, is_cut: bool) -> Result<(), AllocError> {
     if is_cut {
         write!(
             out,
-            "\nonly the first {MOST_STEPS} instructions of the run were watched"
+            "\nonly the first {MOST_STEPS} steps of the search were watched"
         )?;
     }
     out.push('\n')
@@ -229,7 +229,7 @@ fn explain_tree(
     let mut marked = Marked::new(alloc);
     marked.push_tree(&tree.expr)?;
     let arguments = watched(&request.arguments);
-    match watch(alloc, marked.text.as_str(), &arguments, text)? {
+    match watch(alloc, &marked, &arguments, text)? {
         Some(furthest) => Ok(explain_furthest(alloc, request, tree, &marked, text, &furthest)?),
         None => Ok(String::from_str(alloc, "no match\n")?),
     }

@@ -15,9 +15,11 @@ from typing import Any, Iterator, List, Optional, Tuple, Union
 
 from ._errors import LimitError, error
 from ._flags import RegexFlag
+from ._library import VERSION as __version__
 from ._library import version
-from ._patterns import Match, Pattern, Replacement, last_text
+from ._patterns import Match, Pattern, Replacement
 from ._scanner import Found, Scanner
+from ._texts import forget_texts, plain, whole_number
 
 __all__ = [
     "A", "ASCII", "DOTALL", "Found", "I", "IGNORECASE", "LimitError", "M", "MULTILINE", "Match", "NOFLAG", "Pattern", "RegexFlag", "S",
@@ -45,15 +47,15 @@ def _kept(pattern: str, flags: int) -> Pattern:
 def compile(pattern: AnyPattern, flags: int = 0, **options: Any) -> Pattern:
     """The pattern, compiled. Of the flags A, I, M, S, U and X are known.
 
-    Options: backtrack_limit (how often a search may fall back to a branch), step_limit (how many instructions it may
-    execute), visit_limit (how many states it may visit in the parts that an automaton searches for; 100,000,000, some
-    seconds at worst, and 0 is no limit), memory_limit (how many bytes it may keep there, or to fall back; 256 MiB, and 0 is no limit),
-    max_prog_size (how many instructions the program of a pattern may have), max_nesting (how many nodes may be
-    written out in one another), analysis_limit (how often the analysis may look up the size of a group, where each back
-    reference and each call counts once for each group, and once more; 20,000,000, and 0 is no limit), find_not_empty (a
-    match has to take something), leftmost_longest (the longest match at the earliest start is found, and not the first),
-    and crlf, swap_greed, oniguruma and ignore_numbered_groups_when_named_groups_exist, as RegexBuilder of fancy-regex has
-    them.
+    Options: backtrack_limit (how often a search may fall back to a branch; 20,000,000, and one more for each byte of the text
+    and its end), step_limit (how many instructions it may execute; 100,000,000, and eight more for each), visit_limit (how
+    many states it may visit in the parts that an automaton searches for; 20,000,000, some 3 s at worst, and 0 is no limit),
+    memory_limit (how many bytes it may keep there, or to fall back; 256 MiB, and 0 is no limit), max_prog_size (how many
+    instructions the program of a pattern may have), max_nesting (how many nodes may be written out in one another),
+    analysis_limit (how many nodes the analysis may look at in rounds that change something; 5,000,000, and 0 is no limit),
+    find_not_empty (a match has to take something), leftmost_longest (the longest match at the earliest start is found, and
+    not the first), and crlf, swap_greed, oniguruma and ignore_numbered_groups_when_named_groups_exist, as RegexBuilder of
+    fancy-regex has them.
 
     A pattern that cannot be read, or is refused, is an `error`.
     """
@@ -63,11 +65,12 @@ def compile(pattern: AnyPattern, flags: int = 0, **options: Any) -> Pattern:
         return pattern
     if not isinstance(pattern, str):
         raise TypeError(f"a pattern is a string, not {type(pattern).__name__!r}")
-    if flags & ~_KNOWN:
-        raise ValueError(f"unknown flags: {int(flags) & ~int(_KNOWN)}")
+    pattern, flags = plain(pattern), whole_number(flags)
+    if flags & ~int(_KNOWN):
+        raise ValueError(f"unknown flags: {flags & ~int(_KNOWN)}")
     if flags & A and flags & U:
         raise ValueError("ASCII and UNICODE flags are incompatible")
-    flags = int(flags) | (0 if flags & A else int(U))
+    flags |= 0 if flags & A else int(U)
     return Pattern(pattern, RegexFlag(flags), options) if options else _kept(pattern, flags)
 
 
@@ -118,10 +121,10 @@ def escape(pattern: str) -> str:
     """The pattern that spells a text, whatever flags hold: what `re.escape` answers."""
     if not isinstance(pattern, str):
         raise TypeError(f"a pattern is a string, not {type(pattern).__name__!r}")
-    return pattern.translate(_SPECIAL)
+    return plain(pattern).translate(_SPECIAL)
 
 
 def purge() -> None:
-    """Forgets the patterns that `compile` kept, and the text of the last search."""
+    """Forgets the patterns that `compile` kept, and the texts of the last searches."""
     _kept.cache_clear()
-    last_text.text = None
+    forget_texts()

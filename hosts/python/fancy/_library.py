@@ -11,11 +11,13 @@ from typing import Any, Callable, Dict, List, Mapping, Optional, Tuple
 
 from ._errors import LimitError, error
 from ._flags import RegexFlag
+from ._texts import whole_number
 
 UNSET = c_size_t(-1).value
-# The library has to be of this version: below 1.0.0 a minor version may change calls.
-VERSION = "0.3"
-NAMES = (f"libfancy.so.{VERSION}", "libfancy.so")
+VERSION = "0.4.0"
+# The library has to be of this minor version: below 1.0.0 a minor version may change calls.
+MINOR = VERSION.rpartition(".")[0]
+NAMES = (f"libfancy.so.{MINOR}", "libfancy.so")
 
 OK, NO_MATCH, MEMORY = 0, 1, 5
 # how many numbers of a row stand before the spans of its groups
@@ -48,6 +50,7 @@ _SWITCHES = (
     "swap_greed",
     "oniguruma",
     "named_groups_only",
+    "text_is_utf8",
 )
 
 
@@ -77,10 +80,11 @@ class Standing(Structure):
 
 
 def _candidates() -> List[str]:
-    """What may be the library, the likeliest first."""
+    """What may be the library, the likeliest first: what FANCY_LIBRARY names, the one of the package, the installed one."""
     given = os.environ.get("FANCY_LIBRARY")
     if given is None:
-        return list(NAMES)
+        own = Path(__file__).with_name("libfancy.so")
+        return [str(own)] if own.exists() else list(NAMES)
     return [str(Path(given) / name) for name in NAMES] if os.path.isdir(given) else [given]
 
 
@@ -92,8 +96,8 @@ def _loaded() -> CDLL:
         except OSError as fault:
             faults.append(str(fault))
     raise ImportError(
-        "the library libfancy.so was not found. Install it (`make -C hosts install PREFIX=/usr/local`, then `ldconfig`), or"
-        " name its file or folder in the environment variable FANCY_LIBRARY. Tried: " + "; ".join(faults)
+        "the library libfancy.so was not found. Install it (`scripts/install library`), or name its file or folder in the"
+        " environment variable FANCY_LIBRARY. Tried: " + "; ".join(faults)
     )
 
 
@@ -112,7 +116,7 @@ _CALLS = {
     "fancy_find_all": (_Outcome, (_PROGRAM, *_TEXT, _OPTIONS, POINTER(Standing), _NUMBERS, c_size_t)),
     "fancy_captures_all": (_Outcome, (_PROGRAM, *_TEXT, _OPTIONS, POINTER(Standing), _NUMBERS, c_size_t)),
     "fancy_scanner_add": (_Outcome, (_SCANNER, *_TEXT, _OPTIONS)),
-    "fancy_scan": (_Outcome, (_SCANNER, *_TEXT, _NUMBERS, c_size_t, _NUMBERS, c_size_t)),
+    "fancy_scan": (_Outcome, (_SCANNER, *_TEXT, _OPTIONS, _NUMBERS, c_size_t, _NUMBERS, c_size_t)),
     "fancy_scanner_free": (None, (_SCANNER,)),
     "fancy_error_name": (c_size_t, (c_uint32, *_ROOM)),
     "fancy_error_message": (c_size_t, (POINTER(_Outcome), *_ROOM)),
@@ -137,17 +141,27 @@ def _written(write: Callable[..., int], *arguments: Any) -> str:
     return room.raw[:length].decode()
 
 
-_library = _declared(_loaded())
+class _Library:
+    """The calls of the library by their names. It is loaded at the first of them, so that the package can be imported, and
+    its documents read, without it."""
+
+    def __getattr__(self, name: str) -> Any:
+        if name not in _CALLS:
+            raise AttributeError(name)
+        library = _declared(_loaded())
+        defaults, found = library.fancy_default_options(), _written(library.fancy_version)
+        if defaults.size != sizeof(_Options) or found.rpartition(".")[0] != MINOR:
+            raise ImportError(f"the library {library._name} is of version {found}, and this package needs {MINOR}")
+        vars(self).update({call: getattr(library, call) for call in _CALLS})
+        return vars(self)[name]
+
+
+_library = _Library()
 
 
 def version() -> str:
-    """The version of the library, as '0.3.0'."""
+    """The version of the library, as '0.4.0'."""
     return _written(_library.fancy_version)
-
-
-_defaults = _library.fancy_default_options()
-if _defaults.size != sizeof(_Options) or version().rpartition(".")[0] != VERSION:
-    raise ImportError(f"the library {_library._name} is of version {version()}, and this package needs {VERSION}")
 
 
 # ---- Options
@@ -191,16 +205,25 @@ class Options:
         for name, value in given.items():
             if name not in cls.NAMES:
                 raise TypeError(f"there is no option {name!r}; the options are {', '.join(cls.NAMES)}")
-            if isinstance(value, int) and not 0 <= value <= UNSET:
-                raise ValueError(f"{name} is not from 0 to {UNSET}")
+            if isinstance(value, int):
+                value = whole_number(value)
+                if not 0 <= value <= UNSET:
+                    raise ValueError(f"{name} is not from 0 to {UNSET}")
             fields[cls.NAMES[name]] = value
         return cls(tuple(sorted(given.items())), fields)
 
     def with_(self, **fields: Any) -> "Options":
         return Options(self.given, {**self._fields, **fields})
 
+    def nesting_deeper(self, levels: int) -> "Options":
+        """The same, where so many more nodes may be written out in one another."""
+        most = self._fields.get("max_nesting", _library.fancy_default_options().max_nesting)
+        return self.with_(max_nesting=min(most + levels, UNSET))
+
     def _struct(self) -> _Options:
-        options = _Options.from_buffer_copy(_defaults)
+        """As the library has them. The texts of all searches are what `str.encode` answers."""
+        options = _library.fancy_default_options()
+        options.text_is_utf8 = True
         for name, value in self._fields.items():
             setattr(options, name, value)
         return options
@@ -232,16 +255,18 @@ class _Handle:
     __slots__ = ("program", "options", "spans")
 
     def __init__(self, options: Options) -> None:
-        self.program = _Program()
+        # first what may fail, so that there is nothing to free then
         self.options = options._struct()
+        self.program = _Program()
         self.spans = (c_size_t * 0)()
 
     def make_room(self) -> None:
         """Room for the groups of what was compiled."""
         self.spans = (c_size_t * (2 * _library.fancy_group_count(self.program)))()
 
-    def __del__(self, free: Callable[..., None] = _library.fancy_free) -> None:
-        free(self.program)
+    def __del__(self, library: _Library = _library) -> None:
+        if hasattr(self, "program"):
+            library.fancy_free(self.program)
 
 
 class Program:
@@ -345,13 +370,17 @@ class Program:
 class Patterns:
     """A scanner of the library, freed with this. The caller lets one call at a time use it."""
 
-    __slots__ = ("scanner",)
+    __slots__ = ("scanner", "options")
 
     def __init__(self) -> None:
         self.scanner = _Scanner()
+        # of a scan: those of its patterns were given with them
+        self.options = Options((), {})._struct()
 
-    def __del__(self, free: Callable[..., None] = _library.fancy_scanner_free) -> None:
-        free(self.scanner)
+    def __del__(self, library: _Library = _library) -> None:
+        # without patterns it holds nothing
+        if any(self.scanner.words):
+            library.fancy_scanner_free(self.scanner)
 
     def add(self, pattern: str, options: Options) -> None:
         """Adds a pattern that was compiled with these options before. Only memory may be wanted."""
@@ -369,6 +398,6 @@ class Patterns:
         width = ROW_SPANS + 2 * groups
         rows = (c_size_t * (width * room))()
         at = c_size_t(pos)
-        outcome = _library.fancy_scan(self.scanner, text, length, at, groups, rows, len(rows))
+        outcome = _library.fancy_scan(self.scanner, text, length, self.options, at, groups, rows, len(rows))
         numbers = [rows[start : start + width] for start in range(0, width * outcome.count, width)]
         return numbers, at.value, outcome.group, _fault(outcome, None), outcome.code == OK

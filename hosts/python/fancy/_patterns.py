@@ -7,56 +7,35 @@ from itertools import islice
 from types import MappingProxyType
 from typing import Any, Callable, Dict, Iterator, List, Mapping, Optional, Tuple, Union
 
-from ._closings import calls_whole, closing_order
 from ._errors import error
 from ._flags import RegexFlag
 from ._library import UNSET, Options, Program, Standing
+from ._readings import Reading
 from ._templates import Template
-from ._texts import Text
+from ._texts import Text, plain, text_of, whole_number
 
 Group = Union[int, str]
-Replacement = Union[str, Callable[["Match"], str]]
+Replacement = Union[str, Callable[["Match"], Optional[str]]]
 
 
 # For how many numbers a call has room, at most, or for one match.
 _MOST_ROOM = 1 << 17
 
 
-class _LastText:
-    """The text of the last call: a loop of searches through one string makes its UTF-8 once."""
-
-    def __init__(self) -> None:
-        self.text: Optional[Text] = None
-
-    def of(self, string: str) -> Text:
-        if not isinstance(string, str):
-            raise TypeError(f"expected string, got {type(string).__name__!r}: patterns search texts, not bytes")
-        text = self.text
-        if text is None or text.string is not string:
-            text = self.text = Text(string)
-        return text
-
-
-last_text = _LastText()
-
-
 class Match:
     """A match: where it and its groups lie in the string, in characters."""
 
     __module__ = "fancy"
-    __slots__ = ("re", "pos", "endpos", "regs", "_text")
+    __slots__ = ("re", "string", "pos", "endpos", "regs", "_text")
 
-    def __init__(self, pattern: "Pattern", text: Text, pos: int, endpos: int, spans: List[int]) -> None:
+    def __init__(self, pattern: "Pattern", string: str, text: Text, pos: int, endpos: int, spans: List[int]) -> None:
         self.re = pattern
+        self.string = string
         self.pos = pos
         self.endpos = endpos
         self._text = text
         places = [-1 if byte == UNSET else text.place_of(byte) for byte in spans]
         self.regs: Tuple[Tuple[int, int], ...] = tuple(zip(places[::2], places[1::2]))
-
-    @property
-    def string(self) -> str:
-        return self._text.string
 
     def _number(self, group: Group) -> int:
         """The number of a group; of several with one name, the first that is set."""
@@ -67,14 +46,14 @@ class Match:
                     return number
             number = numbers[0] if numbers else -1
         else:
-            number = group.__index__() if hasattr(group, "__index__") else -1
+            number = whole_number(group) if hasattr(group, "__index__") else -1
         if not 0 <= number < len(self.regs):
             raise IndexError("no such group")
         return number
 
     def _text_of(self, number: int, default: Any = None) -> Any:
         start, end = self.regs[number]
-        return self.string[start:end] if start >= 0 else default
+        return self._text.string[start:end] if start >= 0 else default
 
     def __getitem__(self, group: Group) -> Optional[str]:
         return self._text_of(self._number(group))
@@ -105,10 +84,14 @@ class Match:
 
     @property
     def lastindex(self) -> Optional[int]:
-        """The group that ends last, of several the one that closes last in the pattern; None if none is set."""
-        closing = self.re._closing_order()
+        """The group that closed last; None if none is set. It is the last one in the pattern, of those in one loop the one that
+        ends last in the text, and of those in one another the outer one."""
+        closings = self.re._reading().closings(self.re.groups)
         numbers = [number for number in range(1, len(self.regs)) if self.regs[number][0] >= 0]
-        return max(numbers, key=lambda number: (self.regs[number][1], closing[number]), default=None)
+        if not numbers:
+            return None
+        last = max(numbers, key=lambda it: (closings[it].loop, self.regs[it][1], closings[it].closed))
+        return max(numbers, key=lambda it: closings[it].closed if closings[it].encloses(closings[last]) else -1)
 
     @property
     def lastgroup(self) -> Optional[str]:
@@ -133,7 +116,7 @@ class Pattern:
 
     __module__ = "fancy"
     __slots__ = (
-        "pattern", "flags", "groups", "groupindex", "_options", "_numbers", "_programs", "_templates", "_closing", "__weakref__",
+        "pattern", "flags", "groups", "groupindex", "_options", "_numbers", "_programs", "_templates", "_read", "__weakref__",
     )  # fmt: skip
 
     def __init__(self, pattern: str, flags: RegexFlag, options: Mapping[str, Any]) -> None:
@@ -146,7 +129,7 @@ class Pattern:
         self._numbers = program.names()
         self.groupindex: Mapping[str, int] = MappingProxyType({name: of[0] for name, of in self._numbers.items()})
         self._templates: Dict[str, Template] = {}
-        self._closing: Optional[List[int]] = None
+        self._read: Optional[Reading] = None
 
     # ---- What is made when it is first asked for
 
@@ -158,16 +141,16 @@ class Pattern:
 
     def _whole(self) -> Program:
         """The program of the pattern that ends where the text does."""
-        if calls_whole(self.pattern):
+        if self._reading().calls_whole:
             # what is called has to be the pattern as it is: its longest match ends where the text does, if one does
             return Program(self.pattern, self._options.with_(longest=True))
-        try:
-            return Program(f"(?:{self.pattern})\\z", self._options)
-        except error:
-            # the pattern ends in a comment
-            return Program(f"(?:{self.pattern}\n)\\z", self._options)
+        # no parenthesis more, since a pattern may nest as deep as is allowed; the tree is one level deeper
+        return Program(self._reading().with_each_branch("\\z"), self._options.nesting_deeper(1))
 
     def _template(self, text: str) -> Template:
+        if not isinstance(text, str):
+            raise TypeError(f"a replacement is a string or a function, not {type(text).__name__!r}")
+        text = plain(text)
         template = self._templates.get(text)
         if template is None:
             if len(self._templates) >= 64:
@@ -175,11 +158,10 @@ class Pattern:
             template = self._templates[text] = Template(text, self.groups, self.groupindex)
         return template
 
-    def _closing_order(self) -> List[int]:
-        if self._closing is None:
-            is_verbose = bool(self.flags & RegexFlag.VERBOSE)
-            self._closing = closing_order(self.pattern, self.groups, is_verbose)
-        return self._closing
+    def _reading(self) -> Reading:
+        if self._read is None:
+            self._read = Reading(self.pattern, bool(self.flags & RegexFlag.VERBOSE))
+        return self._read
 
     # ---- One match
 
@@ -218,8 +200,9 @@ class Pattern:
     def split(self, string: str, maxsplit: int = 0) -> List[Optional[str]]:
         """What stands between the matches, and between two of them the groups of the match."""
         pieces: List[Optional[str]] = []
-        end = 0
-        for match in _Range(self, string).matches(maxsplit):
+        part, end = _Range(self, string), 0
+        string = part.text.string
+        for match in part.matches(whole_number(maxsplit)):
             pieces.append(string[end : match.start()])
             pieces.extend(match.groups())
             end = match.end()
@@ -235,17 +218,16 @@ class Pattern:
         template = None if callable(repl) else self._template(repl)
         expand = template.expand if template else repl
         with_groups = template is None or template.asks_for_groups()
-        pieces: List[str] = []
-        end = number = 0
-        for match in _Range(self, string).matches(count, with_groups):
-            pieces.append(string[end : match.start()])
-            pieces.append(expand(match))
+        part, end = _Range(self, string), 0
+        pieces: List[Optional[str]] = []
+        for match in part.matches(whole_number(count), with_groups):
+            pieces += part.text.string[end : match.start()], expand(match)
             end = match.end()
-            number += 1
-        if number == 0:
-            return string, 0
-        pieces.append(string[end:])
-        return "".join(pieces), number
+        if not pieces:
+            return plain(string), 0
+        pieces.append(part.text.string[end:])
+        # what a function writes may be None, which is nothing
+        return "".join([piece for piece in pieces if piece is not None]), len(pieces) // 2
 
     # ---- As a value
 
@@ -284,9 +266,9 @@ class _Range:
 
     def __init__(self, pattern: Pattern, string: str, pos: int = 0, endpos: int = sys.maxsize) -> None:
         self.pattern = pattern
-        self.text = last_text.of(string)
-        self.endpos = max(0, min(endpos, len(string)))
-        self.pos = max(0, min(pos, len(string)))
+        self.string = string
+        self.text = text_of(string)
+        self.pos, self.endpos = self.text.clipped(pos), self.text.clipped(endpos)
         self.end = self.text.byte_of(self.endpos)
 
     def find(self, way: str, is_anchored: bool) -> Optional[Match]:
@@ -297,7 +279,7 @@ class _Range:
         return self.match_of(spans) if spans else None
 
     def match_of(self, spans: List[int]) -> Match:
-        return Match(self.pattern, self.text, self.pos, self.endpos, spans)
+        return Match(self.pattern, self.string, self.text, self.pos, self.endpos, spans)
 
     def matches(self, limit: int = 0, with_groups: bool = True) -> Iterator[Match]:
         """Every match of the list, or the first of them, as many as the limit says where it is not 0; with the groups of
@@ -309,7 +291,7 @@ class _Range:
 
     def spans(self, limit: int, with_groups: bool) -> Iterator[List[int]]:
         """Start and end of each match, or of each group of each match. Each call asks for twice as many matches as the one
-        before, since each reads the whole text."""
+        before, so that there are few calls."""
         program = self.pattern._program("search")
         standing = Standing(self.text.byte_of(self.pos), 0, False)
         most = max(1, _MOST_ROOM // (2 * program.groups if with_groups else 2))

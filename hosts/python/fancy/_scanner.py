@@ -8,7 +8,8 @@ from typing import Iterable, Iterator, List, NamedTuple, Optional
 
 from ._errors import LimitError
 from ._library import ROW_SPANS, UNSET, Patterns
-from ._patterns import Match, Pattern, last_text
+from ._patterns import Match, Pattern
+from ._texts import text_of
 
 # For how many numbers a call has room, at most, or for one match.
 _MOST_ROOM = 1 << 17
@@ -38,6 +39,8 @@ class Scanner:
         self.patterns = tuple(patterns)
         self._patterns = Patterns()
         for pattern in self.patterns:
+            if not isinstance(pattern, Pattern):
+                raise TypeError(f"a scanner is made of patterns that were compiled, not of {type(pattern).__name__!r}")
             self._patterns.add(pattern.pattern, pattern._options)
         self._groups = 1 + max((pattern.groups for pattern in self.patterns), default=0)
         self._lock = Lock()
@@ -57,9 +60,8 @@ class Scanner:
 
     def _found(self, string: str, pos: int, endpos: int, most: int) -> Iterator[Found]:
         """Each call asks for twice as many matches as the one before, since each searches for each pattern once more."""
-        text = last_text.of(string)
-        endpos = max(0, min(endpos, len(string)))
-        pos = max(0, min(pos, len(string)))
+        text = text_of(string)
+        pos, endpos = text.clipped(pos), text.clipped(endpos)
         if pos > endpos:
             return
         at, end = text.byte_of(pos), text.byte_of(endpos)
@@ -70,7 +72,7 @@ class Scanner:
             for row in rows:
                 pattern = self.patterns[row[0]]
                 spans: List[int] = row[ROW_SPANS : ROW_SPANS + 2 * (pattern.groups + 1)]
-                match = Match(pattern, text, pos, endpos, spans)
+                match = Match(pattern, string, text, pos, endpos, spans)
                 yield Found(row[0], match, None if row[1] == UNSET else row[1])
             if isinstance(fault, LimitError):
                 raise LimitError(fault.msg, self.patterns[stopped].pattern, None, fault.name)

@@ -1,12 +1,26 @@
-"""Where the characters of a text lie in its UTF-8."""
+"""Texts of a caller: their characters, their UTF-8, and where one lies in the other."""
 
 from __future__ import annotations
 
+import operator
 from bisect import bisect_right
-from typing import List, Optional
+from functools import lru_cache
+from typing import Any, List, Optional
 
 # Of so many characters one has its byte written down.
 _STEP = 256
+# So many texts keep their UTF-8 from call to call.
+_KEPT = 8
+
+
+def plain(string: str) -> str:
+    """The characters of a string, as a `str` of which no class of the caller's changes the length or a slice."""
+    return string if type(string) is str else str.__str__(string)
+
+
+def whole_number(number: Any) -> int:
+    """A number of the caller's, as an `int` of which no class of the caller's changes how it compares."""
+    return number if type(number) is int else int.__index__(operator.index(number))
 
 
 class Text:
@@ -36,10 +50,16 @@ class Text:
             self._starts = starts
         return self._starts
 
+    def clipped(self, place: Any) -> int:
+        """The place that a caller names, or the nearest that the string has."""
+        return max(0, min(whole_number(place), len(self.string)))
+
     def byte_of(self, place: int) -> int:
         """The byte where the character at a place begins; the length in bytes for the end."""
-        if self._is_plain():
+        if place == 0 or self._is_plain():
             return place
+        if place == len(self.string):
+            return len(self.utf8)
         mark = place // _STEP
         return self._marks()[mark] + len(self.string[mark * _STEP : place].encode())
 
@@ -50,3 +70,19 @@ class Text:
         starts = self._marks()
         mark = bisect_right(starts, byte) - 1
         return mark * _STEP + len(self.utf8[starts[mark] : byte].decode())
+
+
+# Several threads may ask at the same time. What is kept holds its string, so that no other takes its place in memory.
+_kept = lru_cache(maxsize=_KEPT)(Text)
+
+
+def text_of(string: str) -> Text:
+    """The text of a string that is searched: the same one for each of the last strings, and for one that is equal."""
+    if not isinstance(string, str):
+        raise TypeError(f"expected string, got {type(string).__name__!r}: patterns search texts, not bytes")
+    return _kept(plain(string))
+
+
+def forget_texts() -> None:
+    """Lets go of the texts of the last searches."""
+    _kept.cache_clear()

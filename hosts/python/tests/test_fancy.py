@@ -2,10 +2,11 @@
 
 import gc
 import threading
+import time
 import unittest
 
 import fancy
-from fancy._texts import Text
+from fancy._texts import Text, text_of
 
 
 class Syntax(unittest.TestCase):
@@ -115,18 +116,19 @@ class Errors(unittest.TestCase):
         self.assertEqual(fancy.compile(choices).search("xabcd").span(), (1, 5))
 
     def test_limit_of_analysis(self):
-        # two groups with three references and calls: each counts once for each group, and once more, so they count 9
-        nine = r"(a)(b)\1\2\g<1>"
+        # eight nodes, in four rounds that change something: in two the sizes of the groups, and then that of the whole, and in
+        # two what is known to end, since there is a call
+        looked_at = r"(a)(b)\1\2\g<1>"
         with self.assertRaises(fancy.error) as caught:
-            fancy.compile(nine, analysis_limit=8)
+            fancy.compile(looked_at, analysis_limit=31)
         self.assertEqual((caught.exception.name, caught.exception.pos), ("AnalysisLimitExceeded", None))
-        self.assertEqual(caught.exception.msg, "the groups refer to one another too often")
+        self.assertEqual(caught.exception.msg, "the analysis of the pattern exceeds its limit")
         self.assertNotIsInstance(caught.exception, fancy.LimitError)
-        for options in ({"analysis_limit": 9}, {"analysis_limit": 0}, {}):
-            self.assertEqual(fancy.compile(nine, **options).search("xababa").span(), (1, 6))
+        for options in ({"analysis_limit": 32}, {"analysis_limit": 0}, {}):
+            self.assertEqual(fancy.compile(looked_at, **options).search("xababa").span(), (1, 6))
         # what has no references passes no limit, and a limit comes before other refusals
         self.assertEqual(fancy.compile("(a)(b)", analysis_limit=1).search("ab").groups(), ("a", "b"))
-        for limit, name in ((1, "AnalysisLimitExceeded"), (2, "InvalidBackref")):
+        for limit, name in ((3, "AnalysisLimitExceeded"), (4, "InvalidBackref")):
             with self.assertRaises(fancy.error) as caught:
                 fancy.compile(r"(a)\2", analysis_limit=limit)
             self.assertEqual(caught.exception.name, name)
@@ -148,6 +150,27 @@ class Places(unittest.TestCase):
     def test_zeros(self):
         self.assertEqual(fancy.search("\0(.)", "a\0b").span(1), (2, 3))
         self.assertEqual(fancy.sub("b", "\0", "abc"), "a\0c")
+
+    def test_texts_are_kept(self):
+        strings = [letter * 1000 for letter in "aé😀"]
+        texts = [text_of(it) for it in strings]
+        for string, text in zip(strings, texts):
+            self.assertIs(text_of(string), text)
+            # an equal one has the same places
+            self.assertIs(text_of("".join([string[:500], string[500:]])), text)
+        for number in range(50):
+            text_of(str(number))
+        self.assertIsNot(text_of(strings[0]), texts[0])
+        fancy.purge()
+
+    def test_a_call_costs_no_whole_text(self):
+        text, pattern = "é" * 500_000, fancy.compile("é")
+        pattern.match(text, 1)
+        begun = time.process_time()
+        for place in range(0, 400_000, 1000):
+            self.assertEqual(pattern.match(text, place).span(), (place, place + 1))
+        # 400 calls: each that reads the text once takes a millisecond or two
+        self.assertLess(time.process_time() - begun, 0.2)
 
     def test_long_texts(self):
         text = "é=1 " * 50_000

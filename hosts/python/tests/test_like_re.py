@@ -148,9 +148,53 @@ class LikeRe(unittest.TestCase):
         for pattern, text in [
             ("(a)()", "a"), ("(a())", "a"), ("((a))", "a"), ("(a)(b)?", "a"), ("((a)|(b))*", "ab"), ("(a)|(b)", "b"), ("a", "a"),
             (r"(a\))(b[(]())", "a)b("), ("(?x)(a) # (\n(b)", "ab"), ("(?:(a)(?#()(b))", "ab"), ("(a)(?(1)(b)|(c))", "ab"),
+            ("(?=a(a))(a)", "aa"), ("(?=a(a))(?:(a)|b)", "aa"), ("(?:(a)|(b))+", "aba"), ("(?:(a)|(b))+", "bab"),
+            ("(?:(a)|(b)){1}(c)", "ac"), ("(?x)(?:(a)|(b)) # twice\n {2}", "ba"), ("((?=a(b))a)+", "ab"), ("(?:(a)(?:(b)|(c))*)+", "abcb"),
         ]:  # fmt: skip
             want, got = re.search(pattern, text), fancy.search(pattern, text)
             self.assertEqual(got.lastindex, want.lastindex, pattern)
+
+    def test_deep_nests(self):
+        # `re` allows 100 groups that capture, and more that do not
+        for opening in ("(?:", "(?>", "(?="):
+            pattern = opening * 250 + "a" + ")" * 250
+            for name in ("search", "match", "fullmatch"):
+                got, want = (getattr(it, name)(pattern, "a") for it in (fancy, re))
+                self.assertEqual(described(got), described(want), (name, opening))
+        self.assertEqual(fancy.fullmatch("(" * 250 + "a|b" + ")" * 250, "b").span(250), (0, 1))
+        self.assertEqual(fancy.fullmatch("(a" * 250 + ")" * 250, "a" * 250).span(), (0, 250))
+
+    def test_whole_matches(self):
+        # branches, comments, classes and escapes at the end of a pattern, and what looks like a call of it
+        for pattern, texts in [
+            (r"\\g<0>a*?", [r"\g<0>", r"\g<0>aa", r"\g<0>b"]),
+            ("a|ab|abc", ["a", "ab", "abc", "abcd"]),
+            ("|a", ["", "a", "aa"]),
+            ("a|", ["", "a"]),
+            (r"[|]|\|\||(a|b)c", ["|", "||", "ac", "bc", "c"]),
+            ("(?x) a | b # | c\n | d # e | f", ["a", "b", "c", "d", "e"]),
+            ("(?x: a # | )\n)|b#", ["a", "b#", "b"]),
+            ("a(?# | )|b(?#)", ["a", "b"]),
+            (r"(?i)a|(?:b|c)\Z", ["A", "C"]),
+            (r"(a)|b(?(1)c|d)", ["a", "bd", "bc"]),
+        ]:
+            for text in texts:
+                for pos, end in ((0, 99), (1, 99), (0, 1)):
+                    got, want = (it.compile(pattern).fullmatch(text, pos, end) for it in (fancy, re))
+                    self.assertEqual(described(got), described(want), (pattern, text, pos, end))
+
+    def test_replacements(self):
+        for repl in (lambda it: None, lambda it: it[2], lambda it: ""):
+            for count in (0, 1):
+                got, want = (it.subn("(a)(b)?", repl, "abcab a", count) for it in (fancy, re))
+                self.assertEqual(got, want)
+        for repl in (1, None, 1.5, b"x", ("x",), lambda it: 1, lambda it: b"x", lambda it: [it[0]]):
+            for of in (fancy, re):
+                self.assertRaises(TypeError, of.sub, "a", repl, "a")
+        for repl in (1, None, 1.5):
+            for of in (fancy, re):
+                self.assertRaises(TypeError, of.sub, "b", repl, "a")
+                self.assertRaises(TypeError, of.search("a", "a").expand, repl)
 
     def test_errors(self):
         for pattern, at in [("(a", 2), ("a)", 1), ("a**", 2), ("é(", 2), ("[a", 2), ("\\", 1), ("a\n(?", 4)]:
@@ -192,6 +236,102 @@ class LikeRe(unittest.TestCase):
         self.assertEqual(repr(pattern.search("bA")), "<fancy.Match object; span=(1, 2), match='A'>")
         fault = pickle.loads(pickle.dumps(fancy.error("m", "p", 0, "n")))
         self.assertEqual((fault.msg, fault.pattern, fault.pos, fault.name), ("m", "p", 0, "n"))
+
+
+class Liar(str):
+    """A string that says of itself what is not so."""
+
+    def __len__(self):
+        return 10**9
+
+    def __getitem__(self, place):
+        return "lie"
+
+    def __eq__(self, other):
+        return True
+
+    def __hash__(self):
+        return 1
+
+    def encode(self, *given):
+        return b"\xff" * 3
+
+    def __str__(self):
+        return "lie"
+
+    def __iter__(self):
+        return iter(["lie"])
+
+    def find(self, *given):
+        return 10**6
+
+
+class Endless(str):
+    def __len__(self):
+        while True:
+            pass
+
+
+class LyingInt(int):
+    """A number that is less than all others, and so is no number less than it."""
+
+    def __lt__(self, other):
+        return True
+
+    __le__ = __ne__ = __lt__
+
+    def __gt__(self, other):
+        return False
+
+    __ge__ = __eq__ = __gt__
+
+    def __hash__(self):
+        return 1
+
+
+class Strings(unittest.TestCase):
+    """Strings and numbers of classes of the caller's are read as what they hold, as `re` reads them."""
+
+    def test_searches(self):
+        for kind in (Liar, Endless):
+            for wanted, given in ((re, fancy),):
+                text, pattern = kind("x=1 é=22"), kind(r"(\w)=(\d+)")
+                for name in ("search", "match", "fullmatch"):
+                    got, want = getattr(given, name)(r"(\w)=(\d+)", text), getattr(wanted, name)(r"(\w)=(\d+)", text)
+                    self.assertEqual(got and (got.regs, got.groups()), want and (want.regs, want.groups()), name)
+                    self.assertIs(got and got.string, want and want.string)
+                self.assertEqual(given.compile(pattern).findall("a=1"), [("a", "1")])
+                self.assertEqual(given.findall(r"\d+", text), wanted.findall(r"\d+", text))
+                self.assertEqual(given.split("=", text), wanted.split("=", text))
+                self.assertEqual(given.sub("=", "-", text), wanted.sub("=", "-", text))
+                self.assertEqual((given.sub("#", "-", text), type(given.sub("#", "-", text))), ("x=1 é=22", str))
+                self.assertEqual(given.sub("1", kind(r"<\g<0>>"), "a1"), "a<1>")
+                self.assertEqual(given.search("(1)", "a1").expand(kind(r"<\1>")), "<1>")
+                self.assertEqual(given.escape(kind("a.b")), r"a\.b")
+                found = fancy.Scanner([given.compile(r"\d+")]).scan(text)
+                self.assertEqual([it.match.span() for it in found], [(2, 3), (6, 8)])
+
+    def test_patterns_are_told_apart(self):
+        self.assertEqual(fancy.findall(Liar("a"), "ab"), ["a"])
+        self.assertEqual(fancy.findall(Liar("b"), "ab"), ["b"])
+        self.assertEqual([fancy.findall(".", it) for it in (Liar("a"), Liar("bc"), "d")], [["a"], ["b", "c"], ["d"]])
+
+    def test_numbers(self):
+        wanted, given = re.compile("(a)"), fancy.compile("(a)")
+        for number in (LyingInt(10**9), LyingInt(-(10**9)), LyingInt(1), True):
+            for name in ("search", "match", "fullmatch"):
+                for places in ((number,), (0, number), (number, number)):
+                    got, want = (getattr(it, name)("bab", *places) for it in (given, wanted))
+                    self.assertEqual(described(got), described(want), (name, int(number)))
+            self.assertEqual(given.sub("-", "aaa", number), wanted.sub("-", "aaa", number))
+            self.assertEqual(given.split("aaa", number), wanted.split("aaa", number))
+        for of in (given, wanted):
+            self.assertEqual(of.search("a").group(LyingInt(1)), "a")
+            self.assertRaises(IndexError, of.search("a").group, LyingInt(7))
+            for wrong in (1.0, "1", None):
+                self.assertRaises(TypeError, of.search, "a", wrong)
+                self.assertRaises(TypeError, of.sub, "-", "a", wrong)
+                self.assertRaises(TypeError, of.split, "a", wrong)
 
 
 if __name__ == "__main__":

@@ -31,13 +31,17 @@ struct Row {
 
 impl Row {
     fn of(source: &str, text: &str, words: &str, stack: usize) -> Row {
+        let text = text_of(text);
+        // the rows are answered with the limits of the call `search`
         let options = Options::default()
             .max_prog_size(usize::MAX)
             .analysis_limit(0)
+            .backtrack_limit(1_000_001 + text.len())
+            .step_limit(u64::MAX - 1)
             .max_nesting(nodes_for(stack));
         let mut row = Row {
             source: text_of(source),
-            text: text_of(text),
+            text,
             is_pattern: false,
             options,
             pos: 0,

@@ -1,29 +1,17 @@
-//! Finds the library: in the folder FANCY_LIBRARY, or else by pkg-config.
+//! Links the library: the one inside the crate, as `scripts/release` and `scripts/install` put it there, or the one in the
+//! folder FANCY_LIBRARY, or the one that pkg-config knows. Documents are made without it too.
 
 use std::env::var;
-use std::path::Path;
+use std::path::{Path, PathBuf};
 use std::process::Command;
 
-const ADVICE: &str = "
-fancy-sys: the library `fancy` was not found.
-
-Either install it, which needs the Rattle kit once:
-
-    (cd crates/fancy_host && rt lib)
-    make -C hosts install PREFIX=/usr/local
-
-and, where PREFIX is another folder, say so to pkg-config:
-
-    export PKG_CONFIG_PATH=PREFIX/lib/pkgconfig
-
-Or name the folder in which libfancy.so or libfancy.a lies:
-
-    export FANCY_LIBRARY=FOLDER
-
-FANCY_STATIC=1 takes libfancy.a where both are there.
-";
+const ADVICE: &str = "the library `fancy` was not found, so programs are not linked. \
+Install it by `scripts/install library`, which needs the Rattle kit once; say where to pkg-config, by \
+PKG_CONFIG_PATH=PREFIX/lib/pkgconfig, if its prefix is another than /usr/local. Or name the folder of libfancy.so or \
+libfancy.a in FANCY_LIBRARY. FANCY_STATIC=1 takes libfancy.a where both are there.";
 
 fn main() {
+    println!("cargo:rerun-if-changed=build.rs");
     for variable in [
         "FANCY_LIBRARY",
         "FANCY_STATIC",
@@ -32,12 +20,31 @@ fn main() {
     ] {
         println!("cargo:rerun-if-env-changed={variable}");
     }
-    let found = match var("FANCY_LIBRARY") {
-        Ok(folder) => link_from(&folder),
-        Err(_) => link_by_pkg_config(),
-    };
-    if let Err(why) = found {
-        eprintln!("{ADVICE}\n{why}");
+    let own = own_folder();
+    if own.join("libfancy.a").exists() {
+        link(&own.display().to_string(), "static", "fancy");
+    } else if let Ok(folder) = var("FANCY_LIBRARY") {
+        stop_on(link_from(&folder));
+    } else if let Err(why) = link_by_pkg_config() {
+        // No error: `cargo doc` and `cargo check` need no library, and the linker will say that it is missing.
+        println!("cargo:rustc-link-lib=dylib=fancy");
+        for line in [ADVICE, &why].iter().flat_map(|text| text.lines()) {
+            println!("cargo:warning={line}");
+        }
+    }
+}
+
+/// Where the crate has a library of its own for this target.
+fn own_folder() -> PathBuf {
+    let named = |variable| var(variable).unwrap_or_default();
+    Path::new(&named("CARGO_MANIFEST_DIR"))
+        .join("native")
+        .join(named("TARGET"))
+}
+
+fn stop_on(linked: Result<(), String>) {
+    if let Err(why) = linked {
+        eprintln!("fancy-sys: {ADVICE}\n{why}");
         std::process::exit(1);
     }
 }

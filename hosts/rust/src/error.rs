@@ -93,7 +93,7 @@ pub enum CompileError {
     PatternTooComplex,
     /// More nodes of the pattern would be written out in one another than `max_nesting`.
     NestLimitExceeded,
-    /// The groups of the pattern refer to one another more often than `analysis_limit` allows.
+    /// The analysis of the pattern exceeds `analysis_limit`.
     AnalysisLimitExceeded,
 }
 
@@ -167,22 +167,22 @@ impl ParseError {
         match self {
             ParseError::GeneralParseError => "this cannot be read",
             ParseError::UnclosedOpenParen => "a parenthesis is not closed",
-            ParseError::UnopenedCloseParen => "a `)` closes no parenthesis",
+            ParseError::UnopenedCloseParen => "this `)` closes no parenthesis",
             ParseError::InvalidRepeat => "the counts of a loop are out of order or too large",
             ParseError::RecursionExceeded => "the pattern nests too deeply",
             ParseError::TrailingBackslash => "a backslash ends the pattern",
-            ParseError::InvalidEscape => "no escape has this letter",
+            ParseError::InvalidEscape => "there is no escape with this letter",
             ParseError::UnclosedUnicodeName => "a property has no name, or its `}` is missing",
             ParseError::InvalidHex => "a hexadecimal digit or a `}` is missing",
-            ParseError::InvalidCodepointValue => "no character has this number",
+            ParseError::InvalidCodepointValue => "there is no character with this number",
             ParseError::InvalidClass => "a class is not closed",
             ParseError::UnknownFlag => "no flag stands here",
             ParseError::NonUnicodeUnsupported => "the flag `u` cannot be cleared",
             ParseError::InvalidBackref => "the number of a group is too large",
-            ParseError::TargetNotRepeatable => "a quantifier follows nothing that can be repeated",
+            ParseError::TargetNotRepeatable => "there is nothing to repeat before this quantifier",
             ParseError::InvalidGroupName => "this names no group",
             ParseError::InvalidGroupNameBackref => {
-                "several groups have this name, so it cannot be called, or more than 100, so it cannot be referred to"
+                "several groups have this name, so it cannot be called, or more than 100 have it, so it cannot be referred to"
             }
         }
     }
@@ -268,7 +268,7 @@ impl fmt::Display for CompileError {
                 "the program of the pattern has too many instructions"
             }
             CompileError::NestLimitExceeded => "the pattern nests deeper than the limit",
-            CompileError::AnalysisLimitExceeded => "the groups refer to one another too often",
+            CompileError::AnalysisLimitExceeded => "the analysis of the pattern exceeds its limit",
         };
         f.write_str(text)
     }
@@ -292,7 +292,7 @@ impl fmt::Display for Error {
             Error::ParseError(at, kind) => write!(f, "at byte {at}: {kind}"),
             Error::CompileError(refusal) => refusal.fmt(f),
             Error::RuntimeError(limit) => limit.fmt(f),
-            Error::Memory => f.write_str("memory ran out"),
+            Error::Memory => f.write_str("out of memory"),
         }
     }
 }

@@ -95,7 +95,7 @@ fn is_special(c: char) -> bool {
     )
 }
 
-/// The version of the library that is linked, as `0.3.0`.
+/// The version of the library that is linked, as `0.4.0`.
 pub fn version() -> String {
     // Safety: the room has the length that is said.
     program::written(|version, room| unsafe { fancy_sys::fancy_version(version, room) })

@@ -13,11 +13,15 @@ pub struct Options {
 }
 
 impl Default for Options {
-    /// Those of `fancy_default_options`.
+    /// Those of `fancy_default_options`. A text is a `str`, so the library need not check it.
     fn default() -> Options {
         // Safety: the call takes nothing.
+        let defaults = unsafe { sys::fancy_default_options() };
         Options {
-            host: unsafe { sys::fancy_default_options() },
+            host: sys::FancyOptions {
+                text_is_utf8: true,
+                ..defaults
+            },
         }
     }
 }
@@ -39,18 +43,19 @@ impl Options {
         max_prog_size: usize,
         /// How many nodes of a pattern may be written out in one another; 500 unless set, for a stack of 1 MB.
         max_nesting: usize,
-        /// How often the analysis of a pattern may look up the size of a group; 20,000,000 unless set. Each back reference
-        /// and each call counts once for each group, and once more. 0 is no limit.
+        /// How many nodes the analysis of a pattern may look at in rounds that change something; 5,000,000 unless set. 0
+        /// is no limit.
         analysis_limit: usize,
         /// How deep a tree may nest; 250 unless set, for a stack of 1 MB.
         max_depth: usize,
-        /// How often a search may fall back to a branch. Unless set it is 1,000,000 times, and once more for each byte
+        /// How often a search may fall back to a branch. Unless set it is 20,000,000 times, and once more for each byte
         /// of the text and for its end.
         backtrack_limit: usize,
-        /// How many instructions a search may execute; no bound unless set.
+        /// How many instructions a search may execute. Unless set, or with `u64::MAX`, it is 100,000,000, and eight more
+        /// for each byte of the text and for its end.
         step_limit: u64,
-        /// How many states a search may visit in the parts of a pattern that an automaton searches for; 100,000,000 unless
-        /// set, some seconds at worst. 0 is no limit.
+        /// How many states a search may visit in the parts of a pattern that an automaton searches for; 20,000,000 unless
+        /// set, some 3 s at worst. 0 is no limit.
         visit_limit: u64,
         /// How many bytes a search may keep for these parts at one time; 256 MiB unless set. 0 is no limit.
         memory_limit: usize,
@@ -154,13 +159,14 @@ impl RegexBuilder {
         find_not_empty: bool => not_empty,
         /// Of the matches at the earliest start the longest one is found, in bytes, and not the first. Off unless set.
         leftmost_longest: bool => longest,
-        /// How often a search may fall back to a branch. Unless set it is 1,000,000 times, and once more for each byte
+        /// How often a search may fall back to a branch. Unless set it is 20,000,000 times, and once more for each byte
         /// of the text and for its end.
         backtrack_limit: usize => backtrack_limit,
-        /// How many instructions a search may execute; no bound unless set.
+        /// How many instructions a search may execute. Unless set, or with `u64::MAX`, it is 100,000,000, and eight more
+        /// for each byte of the text and for its end.
         step_limit: u64 => step_limit,
-        /// How many states a search may visit in the parts of the pattern that an automaton searches for; 100,000,000
-        /// unless set, some seconds at worst. 0 is no limit.
+        /// How many states a search may visit in the parts of the pattern that an automaton searches for; 20,000,000
+        /// unless set, some 3 s at worst. 0 is no limit.
         visit_limit: u64 => visit_limit,
         /// How many bytes a search may keep for these parts at one time; 256 MiB unless set. 0 is no limit.
         memory_limit: usize => memory_limit,
@@ -168,9 +174,8 @@ impl RegexBuilder {
         max_prog_size: usize => max_prog_size,
         /// How many nodes of the pattern may be written out in one another; 500 unless set, for a stack of 1 MB.
         max_nesting: usize => max_nesting,
-        /// How often the analysis of the pattern may look up the size of a group; 20,000,000 unless set. Each back
-        /// reference and each call counts once for each group, and once more. A pattern that takes more is refused as
-        /// `CompileError::AnalysisLimitExceeded`. 0 is no limit.
+        /// How many nodes the analysis of the pattern may look at in rounds that change something; 5,000,000 unless set. A
+        /// pattern that takes more is refused as `CompileError::AnalysisLimitExceeded`. 0 is no limit.
         analysis_limit: usize => analysis_limit,
     }
 

@@ -205,12 +205,15 @@ impl Patterns {
         rows: &mut [usize],
     ) -> (usize, Result<bool>) {
         let (at, length) = (rows.as_mut_ptr(), rows.len());
+        // of a scan: those of its patterns were given with them
+        let options = Options::default();
         // Safety: as above.
         let outcome = unsafe {
             sys::fancy_scan(
                 &mut self.0,
                 start_of(text),
                 text.len(),
+                &options.host,
                 pos,
                 groups,
                 at,

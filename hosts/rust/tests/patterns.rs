@@ -365,27 +365,28 @@ fn limits_of_visits_and_memory() {
     }
 }
 
-/// Two groups with three references and calls: each counts once for each group, and once more, so they count 9.
-const NINE: &str = r"(a)(b)\1\2\g<1>";
+/// Eight nodes, in four rounds that change something: in two the sizes of the groups, and then that of the whole, and in
+/// two what is known to end, since there is a call.
+const LOOKED_AT: &str = r"(a)(b)\1\2\g<1>";
 
 #[test]
 fn limits_of_analysis() {
-    let build = |limit| RegexBuilder::new(NINE).analysis_limit(limit).build();
+    let build = |limit| RegexBuilder::new(LOOKED_AT).analysis_limit(limit).build();
     let passed = Error::from(CompileError::AnalysisLimitExceeded);
-    assert_eq!(build(8).unwrap_err(), passed);
+    assert_eq!(build(31).unwrap_err(), passed);
     assert_eq!(
         passed.to_string(),
-        "the groups refer to one another too often"
+        "the analysis of the pattern exceeds its limit"
     );
     // at the limit, without one, and by default
-    for regex in [build(9), build(0), build(usize::MAX), Regex::new(NINE)] {
+    for regex in [build(32), build(0), build(usize::MAX), Regex::new(LOOKED_AT)] {
         assert_eq!(
             regex.unwrap().find("xababa").unwrap().unwrap().range(),
             1..6
         );
     }
     // what has no references passes no limit, and a limit comes before other refusals
-    let build = |pattern: &str| RegexBuilder::new(pattern).analysis_limit(1).build();
+    let build = |pattern: &str| RegexBuilder::new(pattern).analysis_limit(3).build();
     assert!(build("(a)(b)").is_ok());
     assert_eq!(build(r"(a)\2").unwrap_err(), passed);
     assert_eq!(
@@ -396,15 +397,15 @@ fn limits_of_analysis() {
     let options = Options::default();
     let tree = r#"(cat (grp "a") (grp "b") (ref 1) (ref 2) (call 1))"#;
     assert_eq!(
-        Regex::of_tree(tree, options.analysis_limit(8)).unwrap_err(),
+        Regex::of_tree(tree, options.analysis_limit(31)).unwrap_err(),
         passed
     );
-    assert!(Regex::of_tree(tree, options.analysis_limit(9)).is_ok());
+    assert!(Regex::of_tree(tree, options.analysis_limit(32)).is_ok());
     let mut scanner = Scanner::new();
-    let refused = scanner.add_with_options(NINE, options.analysis_limit(8));
+    let refused = scanner.add_with_options(LOOKED_AT, options.analysis_limit(31));
     assert_eq!(refused.unwrap_err(), passed);
     scanner
-        .add_with_options(NINE, options.analysis_limit(9))
+        .add_with_options(LOOKED_AT, options.analysis_limit(32))
         .unwrap();
     assert_eq!(scanned(&mut scanner, "xababa"), [(0, 1, 6, None)]);
 }

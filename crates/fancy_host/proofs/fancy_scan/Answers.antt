@@ -1,24 +1,20 @@
-use Rattle.std.proofs.Common.{sym, ap, ◌∙◌, subst}
+use Rattle.std.proofs.Common.{sym, ◌∙◌, subst}
 use Rattle.fancy_scanner.specs.Scanning.{IsScannerOf}
-use Rattle.fancy_host.specs.Hosted.{not_utf8}
-use Rattle.fancy_host.specs.Scanned.{ScansIn, Writes, in_no_utf8, scanned}
+use Rattle.fancy_host.specs.Scanned.{Writes, scanned, unscanned}
 use Rattle.fancy_host.proofs.Answered.{none_there}
 use Rattle.fancy_host.proofs.EasyScans.{scan_easy}
 use Rattle.fancy_host.proofs.PatternsHeld.{same_as_held, same_as_none}
 use Rattle.fancy_host.proofs.fancy_scan.Goals as goal
 
 pub returns-in-Err-clause-scans : goal.returns-in-Err-clause-scans
-returns-in-Err-clause-scans c =
-    let a = c.args in
-    subst (ScansIn a.text.now a.groups a.pos.now a.rows.now a.scanner.now.handle.scanner a.pos.now a.rows.now)
-    (sym (c.not_utf8.ensures ∙ ap not_utf8 (c.valid_up_to.ensures ∙ c.in-Err.ensures.valid_len))) (in_no_utf8 c.in-Err.ensures.cases.0)
+returns-in-Err-clause-scans c = unscanned c.in-Err.ensures
 
 pub returns-then-not-scanner-clause-scans : goal.returns-then-not-scanner-clause-scans
 returns-then-not-scanner-clause-scans c =
     let a = c.args in
     let held = a.scanner.now.handle.scanner in
-    let same = c.in-Ok.ensures.cases.0 in
-    scanned c.in-Ok.ensures.cases.1
+    let same = c.in-Ok.ensures.0 in
+    scanned c.in-Ok.ensures.1 c.in-Ok.ensures.2
     (λ rules h.
     subst (λ t. Writes rules t a.groups a.pos.now a.rows.now c.scan.new.pos c.scan.new.room c.scan.result) same
     (c.scan.ensures.writes rules
@@ -29,9 +25,9 @@ pub returns-clause-scans : goal.returns-clause-scans
 returns-clause-scans c =
     let a = c.args in
     let held = a.scanner.now.handle.scanner in
-    let same = c.in-Ok.ensures.cases.0 in
+    let same = c.in-Ok.ensures.0 in
     let v = c.into_scanner-held.result.value in
-    scanned c.in-Ok.ensures.cases.1
+    scanned c.in-Ok.ensures.1 c.in-Ok.ensures.2
     (λ rules h.
     subst (λ t. Writes rules t a.groups a.pos.now a.rows.now c.scan-outcome.new.pos c.scan-outcome.new.room c.scan-outcome.result) same
     (c.scan-outcome.ensures.writes rules
@@ -40,10 +36,10 @@ returns-clause-scans c =
     (same_as_held held v (sym c.take.ensures.held ∙ c.into_scanner-held.ensures) rules a.text.now h)))))
 
 pub returns-in-Err-clause-easy : goal.returns-in-Err-clause-easy
-returns-in-Err-clause-easy c = scan_easy c.args.text.now (returns-in-Err-clause-scans c)
+returns-in-Err-clause-easy c = scan_easy c.args.text.now c.args.options.now (returns-in-Err-clause-scans c)
 
 pub returns-then-not-scanner-clause-easy : goal.returns-then-not-scanner-clause-easy
-returns-then-not-scanner-clause-easy c = scan_easy c.args.text.now (returns-then-not-scanner-clause-scans c)
+returns-then-not-scanner-clause-easy c = scan_easy c.args.text.now c.args.options.now (returns-then-not-scanner-clause-scans c)
 
 pub returns-clause-easy : goal.returns-clause-easy
-returns-clause-easy c = scan_easy c.args.text.now (returns-clause-scans c)
+returns-clause-easy c = scan_easy c.args.text.now c.args.options.now (returns-clause-scans c)

@@ -4,7 +4,9 @@ use Rattle.fancy_meaning.specs.Numbering.{numbered, numbered_within}
 use Rattle.fancy_meaning.specs.Options.{AnalysisOptions, analysis_of}
 use Rattle.fancy_meaning.specs.Sizes.{known_of}
 use Rattle.fancy_meaning.specs.Tree.{NoLook}
+use Rattle.fancy_expr.specs.Exprs.{exprs}
 use Rattle.fancy_analysis.specs.Endings.{IsWhole}
+use Rattle.fancy_analysis.specs.Rounds.{Agree}
 use Rattle.fancy_info.specs.Infos.{analysis_options_of}
 use Rattle.fancy_analysis.specs.Analyses.{IsAnalysisOf, IsRefusedAs}
 use Rattle.fancy_info.specs.declared.info.Info.{Info}
@@ -32,11 +34,10 @@ returns c =
     whole_visited o _ c.args.tree.now.expr c.first_group-first.result c.in_ok-info.info c.first_group-first.ensures c.in_ok-info.ensures (record {
       options = refl;
       reads = λ g. ap (λ l. slice_index_or l g false) c.deref-3.ensures.value ∙ c.in_ok-reads.ensures g ∙ flag_is_read p o c.requires.0.groups quiet g;
-      known = ap (map size_of) c.deref-2.ensures.value ∙ c.in_ok-known.ensures
-          ∙ ap (λ n. known_of (numbered_within NoLook n p.tree)) c.first_group-first.ensures;
-    }) in
+    }) (subst (λ l. Agree (map size_of l) (known_of (numbered_within NoLook c.first_group-first.result p.tree)) (exprs c.args.tree.now.expr))
+    (sym c.deref-2.ensures.value) c.in_ok-known.ensures) in
     let root = c.as_root.ensures a refl c.in_ok-info.ensures.within (c.in_ok-info.ensures.start_group
-    ∙ c.first_group-first.ensures) whole.tree whole.analysed in
+    ∙ c.first_group-first.ensures) whole.root.tree whole.analysed in
     record {
       accepted = subst (λ r. MatchOption r (IsAnalysable p o) (λ error. AnalysisRefuses p o (error_of error))) c.in_default-2.is
           (c.in_ok-refused.ensures o quiet whole);
@@ -54,9 +55,8 @@ returns-in-Some-2 c =
     whole_visited o _ c.args.tree.now.expr c.first_group-first.result c.in_ok-info.info c.first_group-first.ensures c.in_ok-info.ensures (record {
       options = refl;
       reads = λ g. ap (λ l. slice_index_or l g false) c.deref-3.ensures.value ∙ c.in_ok-reads.ensures g ∙ flag_is_read p o c.requires.0.groups quiet g;
-      known = ap (map size_of) c.deref-2.ensures.value ∙ c.in_ok-known.ensures
-          ∙ ap (λ n. known_of (numbered_within NoLook n p.tree)) c.first_group-first.ensures;
-    }) in
+    }) (subst (λ l. Agree (map size_of l) (known_of (numbered_within NoLook c.first_group-first.result p.tree)) (exprs c.args.tree.now.expr))
+    (sym c.deref-2.ensures.value) c.in_ok-known.ensures) in
     subst (λ r. MatchOption r (IsAnalysable p o) (λ error. AnalysisRefuses p o (error_of error))) c.in-Some-2.is (c.in_ok-refused.ensures o quiet whole)
 
 memory_only : (tree : ExprTree) (o : AnalysisOptions) (r : Result Info Error) (x : Error) → IsErr r → IsErrAnd r (λ e. e ≡ x) → x ≡ Memory →
@@ -74,8 +74,7 @@ returns-in_err-refused c =
     whole_visited o _ c.args.tree.now.expr c.first_group-first.result c.in_ok-info.info c.first_group-first.ensures c.in_ok-info.ensures (record {
       options = refl;
       reads = λ g. ap (λ l. slice_index_or l g false) c.deref-3.ensures.value ∙ c.in_ok-reads.ensures g ∙ flag_is_read p o c.requires.0.groups quiet g;
-      known = ap (map size_of) c.deref-2.ensures.value ∙ c.in_ok-known.ensures
-          ∙ ap (λ n. known_of (numbered_within NoLook n p.tree)) c.first_group-first.ensures;
-    }) in
+    }) (subst (λ l. Agree (map size_of l) (known_of (numbered_within NoLook c.first_group-first.result p.tree)) (exprs c.args.tree.now.expr))
+    (sym c.deref-2.ensures.value) c.in_ok-known.ensures) in
     let from = c.from_residual-in_err-refused in
     memory_only c.args.tree.now o from.result c.in_err-refused.field-0.0 from.ensures.0 from.ensures.1 (c.in_err-refused.ensures o quiet whole)

@@ -1,7 +1,7 @@
 use Rattle.std.proofs.Common.{◌≡◌, ◌&&◌, ◌||◌, false, nat_lt, ◌<◌, length, get_or, slice_index_or, arith, ap, ◌∙◌, sym}
 use Rattle.fancy_analysis.specs.Endings.{ends_by, and_then, node_ends, is_own_end, group_ends}
 use Rattle.fancy_info.specs.Infos.{info_tree, info_children, info_facts}
-use Rattle.fancy_analysis.proofs.InfoNodes.{child_analysed}
+use Rattle.fancy_analysis.proofs.InfoNodes.{child_sized}
 use Rattle.fancy_analysis.proofs.EndingParts.{ends-taken, ends-here, flag_more, flag_all}
 use Rattle.fancy_analysis.proofs.endings.+find_ends.Goals as goal
 
@@ -17,13 +17,13 @@ loop-child-preserved t c =
       c.find_ends-ends.ensures.length ∙ so_far.0,
       λ a found.
           c.and_then-parts.ensures
-          ∙ ap (and_then c.loop-child.parts) (c.find_ends-ends.ensures.ends a (child_analysed a info n child lt at found))
+          ∙ ap (and_then c.loop-child.parts) (c.find_ends-ends.ensures.ends a (child_sized a info n child lt at found))
           ∙ ap (λ p. and_then p (ends_by flags (info_tree child))) (so_far.1 a found)
           ∙ sym (ends-taken flags (info_children info) n child lt at),
       λ a found g.
           flag_more flags g (info_children info) n child (slice_index_or c.args.next.now g false) (slice_index_or c.loop-child.next g false)
           (slice_index_or c.find_ends-ends.new.next g false) (nat_lt g (length c.args.next.now)) lt at (so_far.2 a found g)
-          (c.find_ends-ends.ensures.next a (child_analysed a info n child lt at found) g
+          (c.find_ends-ends.ensures.next a (child_sized a info n child lt at found) g
           ∙ ap (λ k. slice_index_or c.loop-child.next g false || (nat_lt g k && group_ends flags (info_tree child) g)) so_far.0),
     )
 

@@ -2,8 +2,8 @@ use Rattle.std.proofs.Common.{◌<◌, All, Contains, length, take, get_or, fals
 use Rattle.std.proofs.lemmas.List.{take_all}
 use Rattle.std.proofs.lemmas.List.Elements.{All-more, All-weaker, Contains-get_or}
 use Rattle.fancy_analysis.specs.declared.links.Link.{Link}
-use Rattle.fancy_analysis.specs.Dependents.{listed}
-use Rattle.fancy_analysis.proofs.ListedTargets.{listed_none}
+use Rattle.fancy_analysis.specs.Reached.{listed}
+use Rattle.fancy_analysis.proofs.NumberLists.{listed_none}
 use Rattle.fancy_analysis.proofs.reached.ways.Goals as goal
 
 pub loop-link-init : goal.loop-link-init
@@ -26,15 +26,15 @@ loop-link-preserved c =
     let lt : i < length links = omega arith in
     let e = c.in_ok-list_under.ensures in
     record {
-      same_length = e.kept.length ∙ c.loop-link.invariant.same_length;
+      same_length = e.same_length ∙ c.loop-link.invariant.same_length;
       only = λ g h there. elim (e.only g h there) [
         | inl before ↦ c.loop-link.invariant.only g h before
         | inr is ↦ record { link = link; is_there = Contains-get_or links i none lt; leads_from = sym is.0; leads_to = sym is.1 }
       ];
       all = All-more (λ l. Contains (listed new l.from) l.to) links i none lt
-          (All-weaker (λ l. Contains (listed old l.from) l.to) (λ l. Contains (listed new l.from) l.to) (λ l there. e.kept.each l.from l.to there)
+          (All-weaker (λ l. Contains (listed old l.from) l.to) (λ l. Contains (listed new l.from) l.to) (λ l there. e.kept l.from l.to there)
           (take i links) c.loop-link.invariant.all)
-          (e.there (omega (arith, c.requires i none lt, e.kept.length, c.loop-link.invariant.same_length)));
+          (e.there (omega (arith, c.requires i none lt, e.same_length, c.loop-link.invariant.same_length)));
     }
 
 pub returns-clause-ways : goal.returns-clause-ways

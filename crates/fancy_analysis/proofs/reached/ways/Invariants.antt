@@ -1,6 +1,5 @@
 use Rattle.std.proofs.Common.{◌≡◌, ℕ, All, Contains, length, take}
-use Rattle.fancy_analysis.specs.Dependents.{listed}
-use Rattle.fancy_analysis.specs.Reached.{IsLinked}
+use Rattle.fancy_analysis.specs.Reached.{IsLinked, listed}
 use Rattle.fancy_analysis.proofs.reached.ways.Given as goal
 
 abbrev pub invariant-loop-link : goal.invariant-loop-link

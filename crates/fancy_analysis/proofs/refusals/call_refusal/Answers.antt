@@ -22,7 +22,7 @@ returns-then-reads_after_call c = λ options quiet w.
     let p = parsed_of c.args.tree.now in
     let a = analysis_of p.tree options in
     let late = (c.reads_after_call.ensures a w.analysed).0 c.if-reads_after_call.true in
-    late_refused p options (late.0, subst (λ t. ReadsAfterCall t late.0) w.tree late.1)
+    late_refused p options (late.0, subst (λ t. ReadsAfterCall t late.0) w.root.tree late.1)
 
 pub returns-in-Some : goal.returns-in-Some
 returns-in-Some c = λ options quiet w.
@@ -31,7 +31,7 @@ returns-in-Some c = λ options quiet w.
     let whole = (analysis_of p.tree options).tree in
     left_refused p options (string_bytes c.in-Some.text)
     (subst (λ o. MatchOption o ((g : ℕ) → ¬ IsLeftRecursive whole g)
-    (λ text. IsDescriptionOfLeast whole (names_of t.named_groups.entries) (string_bytes text))) c.in-Some.is (c.in_ok-text.ensures whole w.tree w.sized))
+    (λ text. IsDescriptionOfLeast whole (names_of t.named_groups.entries) (string_bytes text))) c.in-Some.is (c.in_ok-text.ensures whole w.root.tree w.root.sized))
 
 pub returns-then-branch : goal.returns-then-branch
 returns-then-branch c = λ options quiet w.
@@ -39,12 +39,12 @@ returns-then-branch c = λ options quiet w.
     let p = parsed_of t in
     let a = analysis_of p.tree options in
     let no_late : (g : ℕ) → ¬ ReadsAfterCall a.tree g =
-    λ g late. (c.reads_after_call.ensures a w.analysed).1 c.if-reads_after_call.false g (subst (λ x. ReadsAfterCall x g) (sym w.tree) late) in
+    λ g late. (c.reads_after_call.ensures a w.analysed).1 c.if-reads_after_call.false g (subst (λ x. ReadsAfterCall x g) (sym w.root.tree) late) in
     let no_left : (g : ℕ) → ¬ IsLeftRecursive a.tree g =
     subst (λ o. MatchOption o ((g : ℕ) → ¬ IsLeftRecursive a.tree g)
     (λ text. IsDescriptionOfLeast a.tree (names_of t.named_groups.entries) (string_bytes text)))
-    c.in_default.is (c.in_ok-text.ensures a.tree w.tree w.sized) in
-    that_end p options c.requires.0.groups quiet no_late no_left ((c.in_ok-can_end.ensures a w).0 c.if-branch.true)
+    c.in_default.is (c.in_ok-text.ensures a.tree w.root.tree w.root.sized) in
+    that_end p options c.requires.0.groups quiet no_late no_left ((c.in_ok-can_end.ensures a.tree w.root).0 c.if-branch.true)
 
 pub returns-else-branch : goal.returns-else-branch
 returns-else-branch c = λ options quiet w.
@@ -52,10 +52,10 @@ returns-else-branch c = λ options quiet w.
     let p = parsed_of t in
     let a = analysis_of p.tree options in
     let no_late : (g : ℕ) → ¬ ReadsAfterCall a.tree g =
-    λ g late. (c.reads_after_call.ensures a w.analysed).1 c.if-reads_after_call.false g (subst (λ x. ReadsAfterCall x g) (sym w.tree) late) in
+    λ g late. (c.reads_after_call.ensures a w.analysed).1 c.if-reads_after_call.false g (subst (λ x. ReadsAfterCall x g) (sym w.root.tree) late) in
     let no_left : (g : ℕ) → ¬ IsLeftRecursive a.tree g =
     subst (λ o. MatchOption o ((g : ℕ) → ¬ IsLeftRecursive a.tree g)
     (λ text. IsDescriptionOfLeast a.tree (names_of t.named_groups.entries) (string_bytes text)))
-    c.in_default.is (c.in_ok-text.ensures a.tree w.tree w.sized) in
+    c.in_default.is (c.in_ok-text.ensures a.tree w.root.tree w.root.sized) in
     let some : list_any is_call (nodes (tree_of t.expr)) ≡ true = sym (any-nodes is_call t.expr) ∙ sym c.has_node.ensures ∙ c.if-not-has_node.false in
-    never_refused p options c.requires.0.groups quiet no_late no_left some (λ ends. true_false (sym ((c.in_ok-can_end.ensures a w).1 ends) ∙ c.if-branch.false))
+    never_refused p options c.requires.0.groups quiet no_late no_left some (λ ends. true_false (sym ((c.in_ok-can_end.ensures a.tree w.root).1 ends) ∙ c.if-branch.false))

@@ -1,4 +1,4 @@
-use Rattle.std.proofs.Common.{◌≡◌, map, IfOk, sym, ap, ◌∙◌, subst, arith}
+use Rattle.std.proofs.Common.{◌≡◌, map, IfOk, refl, sym, ap, ◌∙◌, subst, arith}
 use Rattle.fancy_meaning.specs.Tree as plain
 use Rattle.fancy_meaning.specs.Numbering.{numbered_within}
 use Rattle.fancy_meaning.specs.Sizes.{next_round}
@@ -16,7 +16,7 @@ returns-then-first-eq0 c =
     subst (λ l. IfOk c.sizes_from_0.result (λ v. map size_of v.items ≡ l))
     (ap (from_0 known) (visited.tree ∙ ap (λ n. numbered_within plain.NoLook n t) c.if-first-eq0.true) ∙ round_from_0 known plain.NoLook t
     ∙ ap (λ n. next_round (numbered_within plain.NoLook n t) known) (sym c.if-first-eq0.true))
-    (c.sizes_from_0.ensures known visited.size)
+    (c.sizes_from_0.ensures known (visited.size known (λ x there g is. refl)))
 
 pub returns : goal.returns
 returns c =
@@ -27,4 +27,4 @@ returns c =
     subst (λ l. IfOk c.sizes_from_1.result (λ v. map size_of v.items ≡ l))
     (ap (from_1 known) (visited.tree ∙ ap (λ n. numbered_within plain.NoLook n t) one) ∙ round_from_1 known plain.NoLook t
     ∙ ap (λ n. next_round (numbered_within plain.NoLook n t) known) (sym one))
-    (c.sizes_from_1.ensures known visited.size)
+    (c.sizes_from_1.ensures known (visited.size known (λ x there g is. refl)))

@@ -9,5 +9,5 @@ invariant-loop-line l = record {
   next : ℕ;
   stands : IsAt (numbers_of l.selected) next l.walk;
   counted : AreCounted next (lines_left l.line-iterator);
-  shows : map shown_of l.lines.items ++ shown l.context (numbers_of l.selected) (lines_left l.line-iterator) ≡ shown l.context (numbers_of l.selected) (lines_of l.text);
+  shows : map shown_of l.lines.items ++ shown l.context l.owed (numbers_of l.selected) (lines_left l.line-iterator) ≡ shown l.context l.owed (numbers_of l.selected) (lines_of l.text);
 }

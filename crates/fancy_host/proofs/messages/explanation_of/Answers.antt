@@ -3,7 +3,7 @@ use Rattle.std.specs.Prelude.{chars}
 use Rattle.fancy_pattern.specs.Spelling.{IsError}
 use Rattle.fancy_search.specs.Requests as asked
 use Rattle.fancy_host.specs.Hosted.{parsing}
-use Rattle.fancy_host.specs.Messages.{Explains, explanation, has_program, message, passes_analysis_limit, refused, spells_no_text, unspelled}
+use Rattle.fancy_host.specs.Messages.{Explains, explanation, has_program, message, refused, spells_no_text, unanalysed, unspelled}
 use Rattle.fancy_host.proofs.Answered.{compiled_by, read_so, refused_by, within_by}
 use Rattle.fancy_host.proofs.Said.{said_by}
 use Rattle.fancy_host.proofs.messages.explanation_of.Goals as goal
@@ -24,17 +24,15 @@ returns-in-Err-parse_tree c =
     c.message_of-in-Err-parse_tree.ensures
     (subst (λ f. Explains bytes o (message f)) (sym c.of_fault.ensures) (unspelled c.in-Ok.ensures.1 c.in-Ok.ensures.2 e spelled))
 
-pub returns-then-passes_analysis_limit : goal.returns-then-passes_analysis_limit
-returns-then-passes_analysis_limit c =
+pub returns-in-Err-check_analysis : goal.returns-in-Err-check_analysis
+returns-in-Err-check_analysis c =
     let bytes = c.args.pattern.now in
     let o = c.args.options.now in
     let tree = c.in-Ok-parse_tree.tree in
     let read = read_so bytes o tree c.in-Ok.text.now c.parsing.result c.in-Ok.ensures.0 c.parsing.ensures c.in-Ok-parse_tree.ensures.answer in
-    said_by c.message_of-then-passes_analysis_limit.result (λ text. string_bytes text) (message c.coded.result) (Explains bytes o)
-    c.message_of-then-passes_analysis_limit.ensures
-    (subst (λ f. Explains bytes o (message f)) (sym c.coded.ensures)
-    (passes_analysis_limit c.in-Ok.ensures.1 c.in-Ok.ensures.2 tree read
-    (c.passes_analysis_limit.ensures.passed c.if-passes_analysis_limit.true)))
+    said_by c.message_of-in-Err-check_analysis.result (λ text. string_bytes text) (message c.in-Err-check_analysis.outcome) (Explains bytes o)
+    c.message_of-in-Err-check_analysis.ensures
+    (unanalysed c.in-Ok.ensures.1 c.in-Ok.ensures.2 tree read c.in-Err-check_analysis.ensures)
 
 pub returns-in-Ok-new : goal.returns-in-Ok-new
 returns-in-Ok-new c =
@@ -46,7 +44,7 @@ returns-in-Ok-new c =
     let as_compiled = c.compilation.ensures ∙ ap asked.compilation c.request-request.ensures in
     subst (Explains bytes o) (sym c.new-in-Ok-new.ensures.bytes)
     (has_program c.in-Ok.ensures.1 c.in-Ok.ensures.2 tree c.in-Ok-new.field-0 read
-    (c.passes_analysis_limit.ensures.within c.if-passes_analysis_limit.false)
+    c.in_default-check_analysis.ensures
     (compiled_by tree o c.analysis.result c.compilation.result as_analysed as_compiled c.in-Ok-new.field-0 c.in-Ok-new.ensures.made)
     (within_by tree o c.analysis.result c.compilation.result as_analysed as_compiled c.in-Ok-new.ensures.within))
 
@@ -60,5 +58,5 @@ returns c =
     let as_analysed = c.analysis.ensures ∙ ap asked.analysis c.request-request.ensures in
     let as_compiled = c.compilation.ensures ∙ ap asked.compilation c.request-request.ensures in
     said_by c.explained.result (λ text. string_bytes text) (explanation e) (Explains bytes o) c.explained.ensures
-    (refused c.in-Ok.ensures.1 c.in-Ok.ensures.2 tree e read (c.passes_analysis_limit.ensures.within c.if-passes_analysis_limit.false)
+    (refused c.in-Ok.ensures.1 c.in-Ok.ensures.2 tree e read c.in_default-check_analysis.ensures
     (refused_by tree o c.analysis.result c.compilation.result as_analysed as_compiled e c.in-Err-new.ensures.made))

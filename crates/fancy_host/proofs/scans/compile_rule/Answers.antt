@@ -7,7 +7,7 @@ use Rattle.fancy_steps.specs.declared.search_limits.SearchLimits.{SearchLimits}
 use Rattle.fancy_search.specs.Searches.{input_of}
 use Rattle.fancy_matches.specs.Listing.{options_for}
 use Rattle.fancy_scanner.specs.Scanning.{IsTreeOf as IsScanTreeOf, rule_of}
-use Rattle.fancy_host.specs.Hosted.{FailsToCompile, passes_analysis_limit, pattern, refused, unspelled}
+use Rattle.fancy_host.specs.Hosted.{FailsToCompile, pattern, refused, unanalysed, unspelled}
 use Rattle.fancy_host.specs.Scanned.{fails, in_no_text}
 use Rattle.fancy_host.proofs.Answered.{read_so, refused_by}
 use Rattle.fancy_host.proofs.PatternsHeld.{rule_so}
@@ -27,15 +27,15 @@ returns-in-Err c =
     (subst (FailsToCompile o (pattern bytes)) (sym c.of_fault.ensures)
     (unspelled c.in-Err.error (subst (λ p. IsError p (chars bytes) c.in-Err.error) c.parsing.ensures told)))
 
-pub returns-then-passes_analysis_limit : goal.returns-then-passes_analysis_limit
-returns-then-passes_analysis_limit c =
+pub returns-in_err-check_analysis : goal.returns-in_err-check_analysis
+returns-in_err-check_analysis c =
     let bytes = c.args.pattern.now in
     let o = c.args.options.now in
     let tree = c.in-Ok.tree in
-    fails c.in_ok-text.ensures.1 c.in_ok-text.ensures.2
-    (subst (FailsToCompile o (pattern bytes)) (sym c.coded.ensures)
-    (passes_analysis_limit tree (read_so bytes o tree c.in_ok-text.text.now c.parsing.result c.in_ok-text.ensures.0 c.parsing.ensures c.in-Ok.ensures.answer)
-    (c.passes_analysis_limit.ensures.passed c.if-passes_analysis_limit.true)))
+    let p = err_from_is_err_and c.from_residual-2.result c.from_residual-2.ensures.1 in
+    rw (p.1, p.2) (fails c.in_ok-text.ensures.1 c.in_ok-text.ensures.2
+    (unanalysed tree (read_so bytes o tree c.in_ok-text.text.now c.parsing.result c.in_ok-text.ensures.0 c.parsing.ensures c.in-Ok.ensures.answer)
+    c.in_err-check_analysis.ensures))
 
 pub returns-in-Ok-new : goal.returns-in-Ok-new
 returns-in-Ok-new c =
@@ -48,7 +48,7 @@ returns-in-Ok-new c =
       utf8 = c.in_ok-text.ensures.2;
       tree = tree;
       read = read_so bytes o tree c.in_ok-text.text.now c.parsing.result c.in_ok-text.ensures.0 c.parsing.ensures c.in-Ok.ensures.answer;
-      analysed_within = c.passes_analysis_limit.ensures.within c.if-passes_analysis_limit.false;
+      analysed_within = c.in_ok-check_analysis.ensures;
       made = λ text.
           subst (λ r. IsScanTreeOf r text c.limit.new.self)
           (rule_so tree o text s.result.analysis s.result.compilation (run_options_of s.result.run) c.backtracks.result s.ensures.analysis
@@ -77,5 +77,5 @@ returns c =
     (subst (FailsToCompile o (pattern bytes)) (sym c.of_error.ensures)
     (refused tree c.in-Err-new.error
     (read_so bytes o tree c.in_ok-text.text.now c.parsing.result c.in_ok-text.ensures.0 c.parsing.ensures c.in-Ok.ensures.answer)
-    (c.passes_analysis_limit.ensures.within c.if-passes_analysis_limit.false)
+    c.in_ok-check_analysis.ensures
     (refused_by tree o s.result.analysis s.result.compilation s.ensures.analysis s.ensures.compilation c.in-Err-new.error c.in-Err-new.ensures)))

@@ -1,11 +1,12 @@
-use Rattle.std.proofs.Common.{◌≡◌, false, true, [], string_bytes, sym, ap, ◌∙◌, subst}
+use Rattle.std.proofs.Common.{◌≡◌, false, true, [], sym, ap, ◌∙◌, subst}
 use Rattle.fancy_meaning.specs.Fits.{run_fits}
 use Rattle.fancy_program.specs.Programs.{prog_of}
 use Rattle.fancy_search.specs.Searches.{program}
 use Rattle.fancy_steps.specs.SearchLimits.{EndsBy}
+use Rattle.fancy_replace.specs.Outputs.{Holds}
 use Rattle.fancy_replace.specs.Pieces.{as_limit}
 use Rattle.fancy_host.specs.Hosted.{compiled_of, failure_by, passed_in}
-use Rattle.fancy_host.specs.Rewritten.{FailsToRewrite, IsRewritten, Replaces, WritesWhole, does_not_fit, fails, replaced, writing}
+use Rattle.fancy_host.specs.Rewritten.{FailsToRewrite, IsRewritten, Replaces, does_not_fit, fails, replaced, writing}
 use Rattle.fancy_host.proofs.LimitsPassed.{passed_so}
 use Rattle.fancy_host.proofs.tree.CompiledTree.replace.Goals as goal
 
@@ -27,14 +28,14 @@ returns-in-Ok c =
     let o = c.args.options.now in
     let old = c.args.room.now in
     let write = writing s c.args.is_literal c.args.replacement.now in
-    let new = string_bytes c.in-Ok.new in
+    let is = c.in-Ok.ensures.rewrites in
     let yes = sym c.fits.ensures ∙ c.if-not-fits.false in
     let scratch = c.replaced.new.scratch in
     let limits_are = c.replaced.ensures.limits ∙ (c.limit.ensures.limits ∙ c.limits.ensures) in
     replaced
-    (subst (λ r. run_fits (record { program = prog_of (program (compiled_of s)); text = []; options = r }) ≡ true) c.listing-listing.ensures yes) new
-    (subst (λ r. IsRewritten (compiled_of s) text r (as_limit c.args.limit) write new) c.listing-listing.ensures c.in-Ok.ensures.rewrites)
-    (subst (λ t. WritesWhole t old c.write_whole.new.room c.write_whole.result) c.as_str.ensures.value c.write_whole.ensures)
+    (subst (λ r. run_fits (record { program = prog_of (program (compiled_of s)); text = []; options = r }) ≡ true) c.listing-listing.ensures yes) is.new
+    (subst (λ r. IsRewritten (compiled_of s) text r (as_limit c.args.limit) write is.new) c.listing-listing.ensures is.is)
+    (c.write_kept.ensures is.new (subst (λ n. Holds c.in-Ok.new n is.new) c.text_room.ensures is.holds))
     (sym (passed_so o scratch limits_are) ∙ c.in-Ok.ensures.stays)
 
 pub returns-in-Err : goal.returns-in-Err

@@ -1,4 +1,4 @@
-use Rattle.std.proofs.Common.{◌≡◌, ◌<◌, ℕ, true, List, None, Some, Err, length, arith, ap, sym, subst}
+use Rattle.std.proofs.Common.{◌≡◌, ◌<◌, ℕ, true, List, None, Some, Err, option_map, refl, length, arith, ap, sym, subst}
 use Rattle.fancy_meaning.specs.Answer.{answer, search_of}
 use Rattle.fancy_meaning.specs.Fits.{run_fits}
 use Rattle.fancy_meaning.specs.Machine as machine
@@ -7,8 +7,11 @@ use Rattle.fancy_meaning.specs.Numbers.{usize_max}
 use Rattle.fancy_meaning.specs.Premises.{plan}
 use Rattle.fancy_laws.proofs.Moves.{is_place_parts}
 use Rattle.fancy_vm.specs.Means.{IsMeaningPair}
-use Rattle.fancy_steps.specs.Outcomes.{RunAnswersPair}
+use Rattle.fancy_steps.specs.Outcomes.{RunAnswersPair, first_pair}
+use Rattle.fancy_program.proofs.FitsLaws.{run_place}
 use Rattle.fancy_program.specs.Programs.{prog_of}
+use Rattle.fancy_search.proofs.Searched.{accepted_input}
+use Rattle.fancy_search.specs.Searches.{program}
 use Rattle.fancy_steps.specs.Tasks.{options_of as run_options_of, task_of}
 use Rattle.fancy_program.specs.declared.insn.Prog.{Prog}
 use Rattle.fancy_matches.proofs.Searching.{pair_fails, pair_found, pair_shown, pair_sound}
@@ -38,6 +41,16 @@ returns-in-Ok-None-clause-promise c i from =
     (subst (IsMeaningPair (prog_of c.program.result.now) text (run_options_of o)) c.in-Ok-None.field-0-is c.in-Ok-None.ensures.headline) in
     let found = pair_found i c.args.compiled.now text o from c.requires.fits None means in
     (found.0, pair_shown text (answer (search_of (plan i) text (run_options_of o))) None found.1)
+
+pub returns-then-is_too_short-clause-promise : goal.returns-then-is_too_short-clause-promise
+returns-then-is_too_short-clause-promise c i from =
+    let text = c.args.text.now in
+    let o = c.args.options.now in
+    let at = run_place (task_of (program c.args.compiled.now) text o) c.requires.fits in
+    let none = c.is_too_short.ensures c.if-is_too_short.true i (run_options_of o) from at refl in (
+      accepted_input i c.args.compiled.now text o from c.requires.fits,
+      pair_shown text (answer (search_of (plan i) text (run_options_of o))) None (sym (ap (option_map first_pair) none)),
+    )
 
 pub returns-in-Ok-Some-clause-promise : goal.returns-in-Ok-Some-clause-promise
 returns-in-Ok-Some-clause-promise c i from =

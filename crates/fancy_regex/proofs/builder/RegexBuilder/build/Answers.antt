@@ -26,7 +26,7 @@ returns-in-Ok c =
     engine c.search_limits.result c.limit.ensures.compiled c.limit.ensures.options c.in-Ok.ensures.made in
     built (options b) tree b.pattern.now c.in_ok-tree.ensures engine
     (compiled_so (options b) tree a k says.analysis says.compilation (run_options_of o.run) engine says.run made)
-    (unlimited_so (options b) tree a k says.analysis says.compilation (run_options_of o.run) engine says.run made)
+    (unlimited_so (options b) tree a k says.analysis says.compilation (run_options_of o.run) engine says.run made says.steps)
     (within_so (options b) tree a k says.analysis says.compilation (o.compilation).max_nesting says.nesting c.in-Ok.ensures.within)
     (ap (λ (a : engine_options.RegexOptions). a.limits) c.limit.ensures.options ∙ c.search_limits.ensures)
     c.regex_of.result c.regex_of.ensures

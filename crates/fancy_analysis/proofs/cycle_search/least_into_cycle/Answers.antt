@@ -1,0 +1,40 @@
+use Rattle.std.proofs.Common.{◌≡◌, true, false, sym, ◌∙◌, arith}
+use Rattle.fancy_expr.proofs.Listed.{true_false}
+use Rattle.fancy_analysis.specs.Reached.{flag}
+use Rattle.fancy_analysis.proofs.SearchSteps.{flag_at, least_found, none_further, none_reached}
+use Rattle.fancy_analysis.proofs.cycle_search.least_into_cycle.Goals as goal
+
+pub loop-number-preserved-then-not-index : goal.loop-number-preserved-then-not-index
+loop-number-preserved-then-not-index c =
+    let flags = c.in_ok-reached.reached.items in
+    let n = c.loop-number.number in
+    let at : flag flags n ≡ false =
+    sym (c.index.ensures ∙ flag_at flags n c.index.result.now (omega (arith, c.loop-number-test.true, c.len-number-end.ensures, c.in_ok-reached.reached.ok.0)))
+    ∙ c.if-not-index.true in
+    record {
+      searching = c.loop-number.invariant.searching;
+      idle = c.loop-number.invariant.idle;
+      none = none_further c.args.links.now flags n c.loop-number.invariant.none (λ is. absurd (true_false (sym is ∙ at)));
+    }
+
+pub loop-number-preserved : goal.loop-number-preserved
+loop-number-preserved c =
+    let t = c.in_ok-leads.ensures in
+    record {
+      searching = t.searching c.if-branch.false;
+      idle = t.idle c.if-branch.false;
+      none = none_further c.args.links.now c.in_ok-reached.reached.items c.loop-number.number c.loop-number.invariant.none (λ is. t.none c.if-branch.false);
+    }
+
+pub returns-then-branch : goal.returns-then-branch
+returns-then-branch c =
+    let flags = c.in_ok-reached.reached.items in
+    let n = c.loop-number.number in
+    let at : flag flags n ≡ true =
+    sym (c.index.ensures ∙ flag_at flags n c.index.result.now (omega (arith, c.loop-number-test.true, c.len-number-end.ensures, c.in_ok-reached.reached.ok.0)))
+    ∙ c.if-not-index.false in
+    least_found c.args.links.now flags n c.in_ok-reached.ensures at (c.in_ok-leads.ensures.cycle c.if-branch.true) c.loop-number.invariant.none
+
+pub returns : goal.returns
+returns c = none_reached c.args.links.now c.in_ok-reached.reached.items c.loop-number.number c.in_ok-reached.ensures
+    (omega (arith, c.loop-number-test.false, c.len-number-end.ensures, c.in_ok-reached.reached.ok.0)) c.loop-number.invariant.none

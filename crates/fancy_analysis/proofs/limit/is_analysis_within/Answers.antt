@@ -1,0 +1,41 @@
+use Rattle.std.proofs.Common.{◌≡◌, ◌≤◌, ◌<◌, ◌/◌, length, IsTrue, IsFalse, arith, ◌∙◌, sym, subst}
+use Rattle.fancy_expr.specs.Exprs.{exprs}
+use Rattle.fancy_analysis.specs.AnalysisLimit.{analysis_nodes, analysis_rounds}
+use Rattle.fancy_analysis.proofs.LimitRounds.{most_rounds, ok_weaker, times_none, with_none}
+use Rattle.fancy_analysis.proofs.NodeCounts.{count_below, times_over, times_within}
+use Rattle.fancy_analysis.proofs.limit.is_analysis_within.Goals as goal
+
+pub returns-then-not-has_names : goal.returns-then-not-has_names
+returns-then-not-has_names c =
+    let e = c.args.tree.now.expr in
+    record {
+      within = λ t. times_none (length (exprs e)) (analysis_rounds e) c.args.limit (with_none e (sym c.has_names.ensures ∙ c.if-not-has_names.true));
+      over = λ f. absurd (cc);
+    }
+
+pub returns-then-tree-most : goal.returns-then-tree-most
+returns-then-tree-most c =
+    let e = c.args.tree.now.expr in
+    let some = count_below e in
+    record {
+      within = λ t. times_within c.args.limit (length (exprs e)) (analysis_rounds e) (omega arith)
+          (omega (arith, most_rounds e, c.requires.0.groups, c.if-tree-most.true, c.rounds_within-most.ensures));
+      over = λ f. absurd (cc);
+    }
+
+pub returns : goal.returns
+returns c =
+    let e = c.args.tree.now.expr in
+    let some = count_below e in
+    let n = length (exprs e) in
+    let most : c.rounds_within-most.result ≡ c.args.limit / n = c.rounds_within-most.ensures in
+    record {
+      within = ok_weaker c.are_few_rounds.result (λ few. IsTrue few → analysis_rounds e ≤ c.rounds_within-most.result)
+          (λ few. IsTrue few → analysis_nodes c.args.tree.now ≤ c.args.limit)
+          (λ few h t. times_within c.args.limit n (analysis_rounds e) (omega arith) (subst (λ k. analysis_rounds e ≤ k) most (h t)))
+          c.are_few_rounds.ensures.few;
+      over = ok_weaker c.are_few_rounds.result (λ few. IsFalse few → c.rounds_within-most.result < analysis_rounds e)
+          (λ few. IsFalse few → c.args.limit < analysis_nodes c.args.tree.now)
+          (λ few h f. times_over c.args.limit n (analysis_rounds e) (omega arith) (subst (λ k. k < analysis_rounds e) most (h f)))
+          c.are_few_rounds.ensures.over;
+    }

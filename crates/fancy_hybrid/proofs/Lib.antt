@@ -1,0 +1,6 @@
+mod Answered
+mod CellLaws
+mod Leftmost
+mod LookLaws
+mod Nodes
+mod RangeLaws

@@ -1,0 +1,4 @@
+pub mod Cells
+pub mod Engines
+pub mod Patterns
+pub mod Translations

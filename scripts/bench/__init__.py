@@ -1,0 +1,1 @@
+"""Jobs and drivers of other engines, and what they take."""

@@ -1,0 +1,125 @@
+"""What was built, with the sums of the sources that it was built of: what has not changed is not built again.
+
+It lies in the folder out/quick of the repository, which git does not see.
+"""
+import fcntl
+import hashlib
+import shutil
+import tempfile
+from concurrent.futures import ThreadPoolExecutor
+from contextlib import contextmanager
+from pathlib import Path
+
+from .crates import below, is_library_for_c, listed
+from .kit import ROOT, Failure, kit_folder, kit_name
+from .library import write_archive, write_library_module
+from .module import How, compile_module, link_program, write_module
+
+KEPT = ROOT / "out/quick"
+# the files of this folder that decide how a module is compiled
+HOW = [Path(__file__).with_name(it) for it in ("hints.py", "library.py", "module.py")]
+
+
+def sources(crate):
+    """The files that a build of a crate reads, but for those of the kit."""
+    names = listed()
+    for name in (*below(crate, names), crate):
+        for part in ("src/**/*.rt", "specs/**/*.antt"):
+            yield from sorted((ROOT / "crates" / name).glob(part))
+
+
+def sum_of_sources(crate, how=How()):
+    """A sum over all that a build of a crate goes by."""
+    names = listed()
+    text = hashlib.sha256(repr((kit_name(), tuple(how), [(it, names[it]) for it in (*below(crate, names), crate)])).encode())
+    for file in (*sources(crate), *HOW):
+        text.update(f"{file.relative_to(ROOT)}\n".encode())
+        text.update(file.read_bytes())
+    return text.hexdigest()
+
+
+def is_program(crate):
+    return (ROOT / "crates" / crate / "src/main.rt").is_file()
+
+
+def build(crate, out, how, kept_module=None):
+    """Builds a program, or the archive of a library for C, without proving it."""
+    kit = kit_folder()
+    with tempfile.TemporaryDirectory(prefix="quick-build-") as name:
+        folder = Path(name)
+        if is_program(crate):
+            module, words = write_module(kit, ROOT / "crates" / crate, folder, how)
+        else:
+            module, words = write_library_module(kit, folder, how)
+        if kept_module:
+            shutil.copy(module, kept_module)
+        if is_program(crate):
+            compile_module(kit, module, words, folder / "module.o")
+            link_program(kit, folder / "module.o", folder / "program")
+            shutil.copy(folder / "program", out)
+        else:
+            shutil.copy(write_archive(kit, module, words, folder), out)
+
+
+def kept(crate):
+    """Where what was built of a crate is kept, and the file of its sum."""
+    name = crate if is_program(crate) else f"lib{crate}.a"
+    return KEPT / name, KEPT / f"{name}.sum"
+
+
+def is_kept(crate):
+    file, noted = kept(crate)
+    return file.is_file() and noted.is_file() and noted.read_text() == sum_of_sources(crate)
+
+
+@contextmanager
+def alone(crate):
+    """Lets one process at a time build a crate: another then finds what this one kept."""
+    KEPT.mkdir(parents=True, exist_ok=True)
+    with open(KEPT / f"{crate}.lock", "w") as lock:
+        fcntl.flock(lock, fcntl.LOCK_EX)
+        yield
+
+
+def build_kept(crate):
+    """What a crate gives, built if its sources changed. Returns the file, and whether it was built now."""
+    file, noted = kept(crate)
+    with alone(crate):
+        if is_kept(crate):
+            return file, False
+        sum_before = sum_of_sources(crate)
+        noted.unlink(missing_ok=True)
+        build(crate, file, How())
+        # an edit during the build leaves it without a sum, so that it is built again
+        if sum_of_sources(crate) == sum_before:
+            noted.write_text(sum_before)
+        return file, True
+
+
+def build_all(crates, jobs, say):
+    """Builds several crates side by side. Returns the file of each; `say` is told of each that is done."""
+
+    def work(crate):
+        file, is_new = build_kept(crate)
+        say(f"{crate}: {'built' if is_new else 'as it was built before'}, NOT PROVED")
+        return file
+
+    with ThreadPoolExecutor(jobs) as workers:
+        return dict(zip(crates, workers.map(work, crates)))
+
+
+def proved(crate):
+    """The program or the archive that `rt ci`, `rt run` or `rt lib` left of a crate."""
+    name = crate if is_program(crate) else f"lib{crate}.a"
+    file = ROOT / "crates" / crate / "out" / name
+    how = "rt run" if is_program(crate) else "rt lib"
+    if not file.is_file():
+        raise Failure(f"{file.relative_to(ROOT)} is not there: run `{how}` in crates/{crate}, or `rt ci`")
+    newer = [it for it in sources(crate) if it.stat().st_mtime > file.stat().st_mtime]
+    if newer:
+        raise Failure(f"{newer[0].relative_to(ROOT)} is newer than {file.relative_to(ROOT)}: run `{how}` in crates/{crate}")
+    return file
+
+
+def can_be_built(crate):
+    return is_program(crate) or is_library_for_c(crate)
