@@ -1,5 +1,6 @@
 -- The options of the regex that is searched for.
-use Rattle.std.specs.Prelude.{ℕ, Some, option_or, unwrap_or}
+use Rattle.std.specs.Prelude.{ℕ, Some, unwrap_or}
+use Rattle.std.specs.Option.{option_or}
 use Rattle.fancy_pattern.specs.Options.{default_parsing}
 use Rattle.fancy_regex.specs.Options.{default_options}
 use Rattle.fancy_regex.specs.declared.options.RegexOptions.{RegexOptions}

@@ -1,6 +1,7 @@
 //! From a pattern with its options to a regex.
 
-ghost use Rattle.std.specs.Prelude.{◌≡◌, IfOk, MatchResult, option_or, string_bytes, unwrap_or};
+ghost use Rattle.std.specs.Prelude.{◌≡◌, IfOk, MatchResult, string_bytes, unwrap_or};
+ghost use Rattle.std.specs.Option.{option_or};
 ghost use Rattle.fancy_expr.specs.declared.expr.ExprTree.{ExprTree};
 ghost use Rattle.fancy_regex.specs.Builders.{IsBuilt, IsRefused, IsTreeOf, options as options_in, with_options};
 ghost use Rattle.fancy_grep.specs.Matchers.{IsMatcherOf, IsRequiredIn};

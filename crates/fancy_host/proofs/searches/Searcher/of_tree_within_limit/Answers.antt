@@ -1,5 +1,6 @@
 use Rattle.std.proofs.Common.{sym, ap, ◌∙◌, subst}
 use Rattle.std.proofs.lemmas.Result.{err_from_is_err_and}
+use Rattle.fancy_analysis.specs.Names.{names_of as in_entries}
 use Rattle.fancy_search.specs.Requests as asked
 use Rattle.fancy_search.specs.Searches.{IsCompiledFrom}
 use Rattle.fancy_host.specs.Hosted.{asked_of, compiled_of, names_of, tree_in}
@@ -23,8 +24,7 @@ returns c =
     let kept = ap tree_in c.in_ok-new-2.ensures.ok ∙ c.in_ok-new.ensures.ok in
     record {
       from = subst (λ x. IsCompiledFrom (asked_of c.args.tree c.args.options.now) x) (sym (ap compiled_of kept)) from;
-      names = ap names_of kept ∙ ap (λ n. names_of record { compiled = c.in_ok-compiled.compiled; names = n; source = c.new-arg-1.given.0 })
-          c.into_named_groups.ensures;
+      names = ap names_of kept ∙ ap (λ n. in_entries n.entries) c.into_named_groups.ensures;
       analysed_within = c.requires.analysed_within;
       within = within_by c.args.tree c.args.options.now c.analysis.result c.compilation.result as_analysed as_compiled c.in_ok-compiled.ensures.within;
     }
