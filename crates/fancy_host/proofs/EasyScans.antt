@@ -138,8 +138,8 @@ module _ (rules : List Rule) (text : List ℕ) (easy : AreEasyRuns text rules) (
 
 pub scan_easy : (text : List ℕ) (o : FancyOptions) {groups from to : ℕ} {old new : List ℕ} {held : Option Scanner} {outcome : FancyOutcome} →
     ScansIn text o groups from old held to new outcome → IsNoLimitWhereAllEasy held text groups new outcome
-scan_easy text o (rows_of.unscanned no) rules held easy small =
-    let code = no_text_code no in
+scan_easy text o (rows_of.unscanned unread) rules held easy small =
+    let code = no_text_code unread in
     let none = code.1 in
     (no_run _ code.0, λ k limit lt same. absurd (omega (arith, lt, none)))
 scan_easy text o (rows_of.scanned size utf8 h) rules held easy small = writes_easy rules text easy small (h rules held)
