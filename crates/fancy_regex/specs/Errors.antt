@@ -62,4 +62,4 @@ error_text face.NestLimitExceeded = Some (codes "the pattern nests deeper than t
 error_text face.AnalysisLimitExceeded = Some (codes "the analysis of the pattern exceeds its limit")
 error_text face.VisitLimitExceeded = Some (codes "too many states were visited")
 error_text face.MemoryLimitExceeded = Some (codes "too much memory was held")
-error_text face.Memory = Some (codes "memory ran out")
+error_text face.Memory = Some (codes "out of memory")

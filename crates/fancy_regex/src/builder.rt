@@ -17,7 +17,16 @@ use fancy_scanner::scanner::ScanTree;
 use std::alloc::Global;
 use std::sync::Arc;
 
-/// A pattern with the options of its regex. Each setter changes one option, and answers the builder with it.
+/// A pattern with the options of its regex. Each setter changes one option, and returns the builder with it.
+///
+/// The setters say their defaults. docs/LIMITS.md says what the limits count and when to lower them.
+///
+/// # Examples
+///
+/// ```
+/// let mut word = RegexBuilder::new("[a-z]+").case_insensitive(true).step_limit(1_000_000).build(alloc)?;
+/// let found = word.find("7 Apples")?; // 2..8, "Apples"
+/// ```
 #[derive(Clone, Copy, Debug)]
 pub struct RegexBuilder<'p> {
     pub(crate) pattern: &'p str,
@@ -25,7 +34,7 @@ pub struct RegexBuilder<'p> {
 }
 
 impl<'p> RegexBuilder<'p> {
-    /// The pattern with the default options.
+    /// The pattern with the default options. The pattern is not read before `build`.
     pub fn new(pattern: &'p str) -> RegexBuilder<'p>
         ensures { result ≡ default_builder pattern.entry }
     {
@@ -35,7 +44,7 @@ impl<'p> RegexBuilder<'p> {
         }
     }
 
-    /// Literals, classes and references are folded, as with the flag `i`. Off unless set.
+    /// If set, literals, classes and references match without regard to case, as with the flag `i`. Off by default.
     #[must_use]
     pub fn case_insensitive(mut self, yes: bool) -> RegexBuilder<'p>
         ensures { result ≡ with_parsing self.entry
@@ -45,7 +54,7 @@ impl<'p> RegexBuilder<'p> {
         self
     }
 
-    /// `^` and `$` hold at the ends of lines, as with the flag `m`. Off unless set.
+    /// If set, `^` and `$` also match where a line begins and ends, as with the flag `m`. Off by default.
     #[must_use]
     pub fn multi_line(mut self, yes: bool) -> RegexBuilder<'p>
         ensures { result ≡ with_parsing self.entry
@@ -55,7 +64,7 @@ impl<'p> RegexBuilder<'p> {
         self
     }
 
-    /// `.` takes a newline, as with the flag `s`. Off unless set.
+    /// If set, `.` matches a newline too, as with the flag `s`. Off by default.
     #[must_use]
     pub fn dot_matches_new_line(mut self, yes: bool) -> RegexBuilder<'p>
         ensures { result ≡ with_parsing self.entry
@@ -65,7 +74,7 @@ impl<'p> RegexBuilder<'p> {
         self
     }
 
-    /// White space and comments in the pattern are left out, as with the flag `x`. Off unless set.
+    /// If set, white space and comments in the pattern are ignored, as with the flag `x`. Off by default.
     #[must_use]
     pub fn ignore_whitespace(mut self, yes: bool) -> RegexBuilder<'p>
         ensures { result ≡ with_parsing self.entry
@@ -75,7 +84,7 @@ impl<'p> RegexBuilder<'p> {
         self
     }
 
-    /// A CR before an LF belongs to the end of its line, as with the flag `R`. Off unless set.
+    /// If set, a CR before an LF belongs to the end of its line, as with the flag `R`. Off by default.
     #[must_use]
     pub fn crlf(mut self, yes: bool) -> RegexBuilder<'p>
         ensures { result ≡ with_parsing self.entry
@@ -85,7 +94,7 @@ impl<'p> RegexBuilder<'p> {
         self
     }
 
-    /// Quantifiers are lazy, and greedy with a `?`, as with the flag `U`. Off unless set.
+    /// If set, quantifiers are lazy, and greedy with a `?`, as with the flag `U`. Off by default.
     #[must_use]
     pub fn swap_greed(mut self, yes: bool) -> RegexBuilder<'p>
         ensures { result ≡ with_parsing self.entry
@@ -95,7 +104,7 @@ impl<'p> RegexBuilder<'p> {
         self
     }
 
-    /// Folding, classes and word characters go by Unicode, and otherwise by ASCII. On unless set.
+    /// If set, folding, classes and word characters are those of Unicode, and otherwise those of ASCII. On by default.
     #[must_use]
     pub fn unicode_mode(mut self, yes: bool) -> RegexBuilder<'p>
         ensures { result ≡ with_parsing self.entry
@@ -105,7 +114,7 @@ impl<'p> RegexBuilder<'p> {
         self
     }
 
-    /// Under `multi_line` a line begins where Oniguruma has it. Off unless set.
+    /// If set, a line under `multi_line` begins where it does for Oniguruma. Off by default.
     #[must_use]
     pub fn oniguruma_mode(mut self, yes: bool) -> RegexBuilder<'p>
         ensures { result ≡ with_parsing self.entry
@@ -115,7 +124,7 @@ impl<'p> RegexBuilder<'p> {
         self
     }
 
-    /// Where a group has a name, a plain `( )` captures nothing. Off unless set.
+    /// If set, and if the pattern has a named group, a plain `( )` captures nothing. Off by default.
     #[must_use]
     pub fn ignore_numbered_groups_when_named_groups_exist(mut self, yes: bool) -> RegexBuilder<'p>
         ensures { result ≡ with_parsing self.entry (record (parsing self.entry)
@@ -127,7 +136,7 @@ impl<'p> RegexBuilder<'p> {
         self
     }
 
-    /// A match has to take something. Off unless set.
+    /// If set, a match is not empty. Off by default.
     #[must_use]
     pub fn find_not_empty(mut self, yes: bool) -> RegexBuilder<'p>
         ensures { result ≡ with_options self.entry
@@ -137,7 +146,7 @@ impl<'p> RegexBuilder<'p> {
         self
     }
 
-    /// Of the matches at the earliest start the longest one is found, in bytes, and not the first. Off unless set.
+    /// If set, a search finds the longest match, in bytes, at the earliest start, and not the first one. Off by default.
     #[must_use]
     pub fn leftmost_longest(mut self, yes: bool) -> RegexBuilder<'p>
         ensures { result ≡ with_options self.entry
@@ -147,8 +156,9 @@ impl<'p> RegexBuilder<'p> {
         self
     }
 
-    /// How often a search may fall back to a branch. Unless set it is 20,000,000 times, and once more for each byte of the
-    /// text and for its end.
+    /// How often a search may backtrack to a branch. The default is 20,000,000, and one more for each byte of the text and
+    /// for its end; a limit that is set does not grow with the text. A search that exceeds it returns
+    /// `RuntimeError::BacktrackLimitExceeded`.
     #[must_use]
     pub fn backtrack_limit(self, limit: usize) -> RegexBuilder<'p>
         ensures { result ≡ with_options self.entry
@@ -163,8 +173,9 @@ impl<'p> RegexBuilder<'p> {
         }
     }
 
-    /// How many instructions a search may execute. Unless set, or with `u64::MAX`, it is 100,000,000, and eight more for each
-    /// byte of the text and for its end.
+    /// How many instructions a search may execute. The default, and `u64::MAX`, is 100,000,000, and eight more for each byte
+    /// of the text and for its end; a limit that is set does not grow with the text. A search that exceeds it returns
+    /// `RuntimeError::StepLimitExceeded`.
     #[must_use]
     pub fn step_limit(mut self, limit: u64) -> RegexBuilder<'p>
         ensures { result ≡ with_options self.entry
@@ -174,8 +185,8 @@ impl<'p> RegexBuilder<'p> {
         self
     }
 
-    /// How many instructions the program of the pattern may have, or with `None` any number. Unless set it is 100,000. A
-    /// pattern that wants more is refused as `CompileError::PatternTooComplex`.
+    /// How many instructions the program of the pattern may have; `None` is no limit. The default is 100,000. A pattern that
+    /// needs more is refused as `CompileError::PatternTooComplex`.
     #[must_use]
     pub fn max_prog_size(self, limit: Option<usize>) -> RegexBuilder<'p>
         ensures { result ≡ with_options self.entry
@@ -190,9 +201,8 @@ impl<'p> RegexBuilder<'p> {
         }
     }
 
-    /// How many nodes of the pattern may stand in one another where they are written out, calls with them, or with `None`
-    /// any number. Unless set it is 500, for a stack of 2 MB. A pattern that nests deeper is refused as
-    /// `Error::NestLimitExceeded`.
+    /// How many nodes of the pattern may nest in one another, with calls written out; `None` is no limit. The default is 500,
+    /// for a stack of 1 MB. A pattern that nests deeper is refused as `Error::NestLimitExceeded`.
     #[must_use]
     pub fn max_nesting(self, limit: Option<usize>) -> RegexBuilder<'p>
         ensures { result ≡ with_options self.entry
@@ -207,9 +217,9 @@ impl<'p> RegexBuilder<'p> {
         }
     }
 
-    /// How many nodes of the pattern the analysis may look at in rounds that change something, or with `None` any number.
-    /// Unless set it is 5,000,000. All nodes count once for each round in which the size of a group changes, and in
-    /// patterns with calls once for each in which a further group is found to be able to end. A pattern that exceeds it
+    /// How many nodes of the pattern the analysis may look at in rounds that change something; `None` is no limit. The
+    /// default is 5,000,000. All nodes count once for each round in which the size of a group changes. If the pattern has
+    /// calls, they count once more for each round that finds a further group that can end. A pattern that exceeds the limit
     /// is refused as `Error::AnalysisLimitExceeded`, before it is analysed.
     #[must_use]
     pub fn analysis_limit(self, limit: Option<usize>) -> RegexBuilder<'p>
@@ -225,10 +235,9 @@ impl<'p> RegexBuilder<'p> {
         }
     }
 
-    /// How many states a search may visit in plain parts of the pattern, those that are searched without backtracking, or
-    /// with `None` any number. Unless set it is 20,000,000. What walks over the text and back references pass counts too, once
-    /// it is much more than the text. A search that visits more is `Error::VisitLimitExceeded`. It
-    /// bounds the work of a search, and with `step_limit` all of it.
+    /// How many states a search may visit in easy parts of the pattern, which are searched without backtracking; `None` is no
+    /// limit. The default is 20,000,000. Bytes that walks over the text read and that back references compare are visits
+    /// too, beyond some sixteen passes over the text. A search that visits more returns `Error::VisitLimitExceeded`.
     #[must_use]
     pub fn visit_limit(self, limit: Option<usize>) -> RegexBuilder<'p>
         ensures { result ≡ with_options self.entry
@@ -243,9 +252,8 @@ impl<'p> RegexBuilder<'p> {
         }
     }
 
-    /// How many bytes a search may keep at one time for plain parts of the pattern, and as many for the places to which it
-    /// may fall back elsewhere, or with `None` any number. Unless set it is 256 MiB. A search that keeps more is
-    /// `Error::MemoryLimitExceeded`.
+    /// How many bytes a search may keep at one time for easy parts of the pattern, and again for its branches elsewhere;
+    /// `None` is no limit. The default is 256 MiB. A search that keeps more returns `Error::MemoryLimitExceeded`.
     #[must_use]
     pub fn memory_limit(self, limit: Option<usize>) -> RegexBuilder<'p>
         ensures { result ≡ with_options self.entry
@@ -288,11 +296,12 @@ impl<'p> RegexBuilder<'p> {
         }
     }
 
-    /// The regex of the pattern with these options.
+    /// Compiles the pattern with these options.
     ///
-    /// A pattern that cannot be read is an `Error::ParseError`. One whose analysis exceeds its limit is an
-    /// `Error::AnalysisLimitExceeded`, and one that is refused otherwise an `Error::CompileError` or an
-    /// `Error::NestLimitExceeded`. Out of memory is `Error::Memory`.
+    /// # Errors
+    ///
+    /// `ParseError`, with its byte, if the pattern cannot be read. `AnalysisLimitExceeded` if its analysis exceeds the limit.
+    /// `CompileError` or `NestLimitExceeded` if it is refused otherwise. `Memory` if an allocation fails.
     pub fn build(&self, alloc: Global) -> Result<Regex, Error>
         ensures { MatchResult
             result
@@ -345,9 +354,11 @@ impl<'p> RegexBuilder<'p> {
         }
     }
 
-    /// The pattern compiled for a scanner by trees, as `fancy_scanner` has it, with the limits of these options.
+    /// Compiles the pattern for a scanner of `fancy_scanner`, which searches by trees, with the limits of these options.
     ///
-    /// It is refused as `build` refuses it.
+    /// # Errors
+    ///
+    /// Those of `build`.
     pub fn build_scan_tree(&self, alloc: Global) -> Result<ScanTree, Error>
         ensures { MatchResult
             result

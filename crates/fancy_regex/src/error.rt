@@ -1,4 +1,4 @@
-//! Why a pattern has no regex, and why a search has no answer.
+//! Why a pattern has no regex, or a search no result.
 
 ghost use Rattle.std.specs.Prelude.{◌≡◌, None};
 ghost use Rattle.fancy_expr.specs.declared.error.Error.TheVariants as engine;
@@ -14,29 +14,33 @@ use fancy_vm::vm::SearchLimit;
 use std::alloc::{AllocError, AllocFailed};
 use std::fmt;
 
-/// Why a call has no result.
+/// Why a pattern has no regex, or a search no result.
+///
+/// Written by `{error}` it is a sentence for a reader, such as `a parenthesis is not closed` with its byte.
 #[derive(Debug, Drop)]
 pub enum Error {
-    /// The pattern cannot be read: the byte of the fault, and what is wrong there.
+    /// The pattern cannot be read: the byte of the pattern where it fails, from 0 to its length, and the kind of fault.
     ParseError(usize, ParseErrorKind),
-    /// The pattern is read, and refused.
+    /// The pattern can be read, and is refused, such as for a reference to a group that it does not have, or because its
+    /// program would have more instructions than `max_prog_size`.
     CompileError(CompileError),
-    /// A search passed a limit.
+    /// A search exceeded its limit of backtracks or of steps, or would hold more than 1,000,000 branches.
     RuntimeError(RuntimeError),
-    /// More nodes of the pattern stand in one another, where they are written out, than the limit allows.
+    /// More nodes of the pattern nest in one another, with calls written out, than `max_nesting` allows.
     NestLimitExceeded,
-    /// The analysis of the pattern exceeds `analysis_limit`.
+    /// The analysis of the pattern looks at more nodes than `analysis_limit` allows.
     AnalysisLimitExceeded,
-    /// A search visited more states of plain parts of the pattern than `visit_limit` allows.
+    /// A search visited more states of easy parts of the pattern than `visit_limit` allows, or read as much beyond some
+    /// sixteen passes over the text.
     VisitLimitExceeded,
-    /// A search kept more bytes for plain parts of the pattern, or to fall back, than `memory_limit` allows.
+    /// A search kept more bytes for easy parts of the pattern, or for its branches, than `memory_limit` allows.
     MemoryLimitExceeded,
-    /// A request for memory was refused.
+    /// Out of memory: an allocation failed.
     Memory,
 }
 
 impl Error {
-    /// What `Memory` of a search that passed this limit, or none, is to a caller.
+    /// What `Memory` of a search that exceeded this limit, or none, is to a caller.
     fn of_memory(passed: Option<SearchLimit>) -> Error
         ensures engine { engine_error result ≡ engine.Memory }
         ensures limit { limit_told result ≡ passed }
@@ -48,7 +52,7 @@ impl Error {
         }
     }
 
-    /// The error of a search that passed this limit of its delegates, or none.
+    /// The error of a search that exceeded this limit of its delegates, or none.
     pub(crate) fn of_search(error: EngineError, passed: Option<SearchLimit>) -> Error
         ensures engine { engine_error result ≡ error }
         ensures limit { EndsBy error passed → limit_told result ≡ passed }
@@ -124,7 +128,7 @@ impl fmt::Display for Error {
             }
             Error::VisitLimitExceeded => write!(f, "too many states were visited"),
             Error::MemoryLimitExceeded => write!(f, "too much memory was held"),
-            Error::Memory => write!(f, "memory ran out"),
+            Error::Memory => write!(f, "out of memory"),
         }
     }
 }

@@ -21,42 +21,42 @@ use std::fmt;
 use std::ops::Range;
 use std::sync::Arc;
 
-/// A part of a text that matched.
+/// A match: a part of a text, with its place. Positions are in bytes of the text, from 0.
 #[derive(Clone, Copy)]
 pub struct Match<'t> {
     pub(crate) found: engine::Match<'t>,
 }
 
 impl<'t> Match<'t> {
-    /// Where it begins, in bytes of the text.
+    /// The byte where the match begins.
     pub fn start(&self) -> usize
         ensures { result ≡ (span_of self.now).0 }
     {
         self.found.start()
     }
 
-    /// Where it ends.
+    /// The byte where the match ends: the first one after it.
     pub fn end(&self) -> usize
         ensures { result ≡ (span_of self.now).1 }
     {
         self.found.end()
     }
 
-    /// How many bytes it takes.
+    /// How many bytes the match has.
     pub fn len(&self) -> usize
         ensures { result ≡ (span_of self.now).1 - (span_of self.now).0 }
     {
         self.end() - self.start()
     }
 
-    /// Whether it takes nothing.
+    /// Whether the match is empty.
     pub fn is_empty(&self) -> bool
         ensures { result ≡ ((span_of self.now).0 == (span_of self.now).1) }
     {
         self.start() == self.end()
     }
 
-    /// From where it begins to where it ends.
+    /// The bytes of the match, from `start` to `end`.
     pub fn range(&self) -> Range<usize>
         ensures start { result.start ≡ (span_of self.now).0 }
         ensures end { result.end ≡ (span_of self.now).1 }
@@ -64,7 +64,7 @@ impl<'t> Match<'t> {
         self.start()..self.end()
     }
 
-    /// What matched.
+    /// The part of the text that matched.
     pub fn as_str(&self) -> &'t str
         ensures { result.now ≡ part_of self.now }
     {
@@ -72,7 +72,7 @@ impl<'t> Match<'t> {
     }
 }
 
-/// Two matches are equal that begin at the same byte and took the same.
+/// Two matches are equal if they begin at the same byte and have the same text.
 impl<'t> PartialEq for Match<'t> {
     ghost eq = { eq_of_both (on (λ m. (span_of m).0) nat_eq) (on part_of bytes_eq) };
 
@@ -113,7 +113,7 @@ impl fmt::Debug for Match<'_> {
     }
 }
 
-/// The groups of a match.
+/// A match with its groups, by their numbers and names. Group 0 is the match itself.
 pub struct Captures<'t> {
     pub(crate) groups: engine::Captures<'t>,
     pub(crate) names: Arc<GroupNames>,
@@ -130,7 +130,7 @@ impl Drop for Captures<'_> {
 }
 
 impl<'t> Captures<'t> {
-    /// The match, which is group 0.
+    /// The match itself, which is group 0.
     pub fn get_match(&self) -> Match<'t>
         ensures span { span_of result ≡ first_pair (numbers_in self.now) }
         ensures within { text_of result ≡ captures_text self.now }
@@ -140,7 +140,18 @@ impl<'t> Captures<'t> {
         }
     }
 
-    /// The part that the group took, or none if it is not set or not there. Group 0 is the match.
+    /// What the group with this number captured. `None` if the group is not set, or if there is no such group. Group 0 is
+    /// the match.
+    ///
+    /// # Examples
+    ///
+    /// ```
+    /// let mut bold = Regex::new(alloc, "(<)?b(>)?")?;
+    /// if let Some(groups) = bold.captures("b>")? {
+    ///     let open = groups.get(1);  // None
+    ///     let close = groups.get(2); // Some, 1..2
+    /// }
+    /// ```
     pub fn get(&self, group: usize) -> Option<Match<'t>>
         ensures found { option_map span_of result ≡ group_span (numbers_in self.now) group }
         ensures within { IfSome result (λ m. text_of m ≡ captures_text self.now) }
@@ -151,8 +162,8 @@ impl<'t> Captures<'t> {
         }
     }
 
-    /// The part that the group with this name took; of several the first that is set. None if none is set, or no group
-    /// has the name.
+    /// What the group with this name captured; of several groups with the name, the first that is set. `None` if none of
+    /// them is set, or if no group has the name.
     pub fn name(&self, name: &str) -> Option<Match<'t>>
         ensures found { option_map span_of result
             ≡ first_span (numbers_in self.now)
@@ -162,14 +173,14 @@ impl<'t> Captures<'t> {
         first_set(self, self.names.named(name))
     }
 
-    /// How many groups there are, set or not, with group 0.
+    /// How many groups the pattern has, set or not, with group 0.
     pub fn len(&self) -> usize
         ensures { result ≡ group_count (captures_names self.now) }
     {
         self.names.count
     }
 
-    /// The parts that the groups took, from group 0 on; none for a group that is not set.
+    /// What the groups captured, from group 0 on, as an iterator. An item is `None` if its group is not set.
     pub fn iter<'c>(&'c self) -> SubCaptureMatches<'c, 't>
         ensures captures { result.captures.now ≡ self.now }
         ensures first { result.next ≡ 0 }
@@ -180,9 +191,21 @@ impl<'t> Captures<'t> {
         }
     }
 
-    /// Appends a text in which references to groups stand for what these took, as `Template` reads it.
+    /// Appends `text` to `out`, with each reference to a group replaced by what the group captured: `$1`, `${1}`, `$name`,
+    /// `${name}`, and `$$` for a dollar sign, as `Template` reads them.
     ///
-    /// The only error is want of memory, and after it a part of the text may stand there.
+    /// # Errors
+    ///
+    /// `Memory` if an allocation fails; there is no other. After it `out` may have a part of the text.
+    ///
+    /// # Examples
+    ///
+    /// ```
+    /// let mut date = Regex::new(alloc, "([0-9]+)-([0-9]+)")?;
+    /// if let Some(groups) = date.captures("11-24")? {
+    ///     groups.expand("$2/$1", &mut out)?; // out has "24/11" more
+    /// }
+    /// ```
     pub fn expand(&self, text: &str, out: &mut String) -> Result<(), Error>
         ensures { OnOk result (string_bytes out.new ≡ string_bytes out.old
             ++ expansion (names_in (captures_names self.now)) text.now
@@ -194,7 +217,7 @@ impl<'t> Captures<'t> {
     }
 }
 
-/// What the first of these groups took that is set.
+/// What the first of these groups captured that is set.
 fn first_set<'t>(captures: &Captures<'t>, groups: &[usize]) -> Option<Match<'t>>
     ensures found { option_map span_of result
         ≡ first_span (numbers_in captures.now) groups.now }
@@ -208,7 +231,8 @@ fn first_set<'t>(captures: &Captures<'t>, groups: &[usize]) -> Option<Match<'t>>
     None
 }
 
-/// The parts that the groups took, from group 0 on; none for a group that is not set.
+/// What the groups of a match captured, from group 0 on; [`Captures::iter`] makes it. An item is `None` if its group is
+/// not set.
 #[derive(Drop)]
 pub struct SubCaptureMatches<'c, 't> {
     pub(crate) captures: &'c Captures<'t>,

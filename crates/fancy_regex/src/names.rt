@@ -8,7 +8,7 @@ ghost use Rattle.fancy_regex.specs.Names.{NextName, name_of, names_in, numbers_n
 use std::alloc::Global;
 use std::collections::BTreeMap;
 
-/// How many groups a pattern has, and the numbers of each name.
+/// How many groups a pattern has, and the numbers of the groups with each name.
 #[derive(Drop)]
 pub struct GroupNames {
     pub(crate) alloc: Global,
@@ -48,7 +48,8 @@ fn has_number(groups: &Vec<usize>, group: usize) -> bool
     groups.contains(&group)
 }
 
-/// The names of all groups, from group 0 on; none for a group without a name.
+/// The names of all groups, from group 0 on; [`Regex::capture_names`](crate::regexes::Regex::capture_names) makes it. An
+/// item is `None` if its group has no name.
 #[derive(Drop)]
 pub struct CaptureNames<'r> {
     pub(crate) names: &'r GroupNames,

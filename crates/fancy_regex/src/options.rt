@@ -18,22 +18,22 @@ use fancy_search::search::SearchOptions;
 use fancy_vm::vm::{RunOptions, SearchLimits};
 use std::alloc::{AllocError, Global};
 
-/// How a pattern is read and compiled, and how its regex searches.
+/// How a pattern is read and compiled, and how its regex searches. [`RegexBuilder`](crate::RegexBuilder) sets it.
 #[derive(Clone, Copy, Debug)]
 pub struct RegexOptions {
     pub(crate) parsing: ParseOptions,
-    /// A match has to take something.
+    /// A match is not empty.
     pub(crate) not_empty: bool,
-    /// The longest match at the earliest start is found.
+    /// A search finds the longest match at the earliest start.
     pub(crate) longest: bool,
     /// How many instructions the program may have.
     pub(crate) max_prog_size: Option<usize>,
-    /// How many nodes may stand in one another where they are written out.
+    /// How many nodes may nest in one another, with calls written out.
     pub(crate) max_nesting: Option<usize>,
     /// How many nodes the analysis may look at in rounds that change something.
     pub(crate) analysis_limit: Option<usize>,
     pub(crate) backtrack_limit: Option<usize>,
-    /// `u64::MAX` where none was asked.
+    /// `u64::MAX` if none is set.
     pub(crate) step_limit: u64,
     /// How many states of easy parts a search may visit.
     pub(crate) visit_limit: Option<usize>,
@@ -79,7 +79,7 @@ impl RegexOptions {
         }
     }
 
-    /// How much the searches of easy parts may take together.
+    /// How many states and bytes the searches of easy parts may use together.
     pub(crate) fn search_limits(&self) -> SearchLimits
         ensures { result ≡ limits self.now }
     {
@@ -125,7 +125,7 @@ impl RegexOptions {
                 continued: true,
                 not_empty: self.not_empty,
                 leftmost_longest: self.longest,
-                // Each search takes the limit of backtracks from the regex.
+                // Each search has the limit of backtracks of the regex.
                 backtrack_limit: 0,
                 step_limit: self.step_limit,
             },

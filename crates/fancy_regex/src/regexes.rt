@@ -36,7 +36,22 @@ use std::borrow::CowStr;
 use std::fmt;
 use std::sync::Arc;
 
-/// A pattern that is compiled once and searched for many times, with the memory that its searches use again.
+/// A compiled pattern, with the memory that its searches use again.
+///
+/// Positions and lengths are in bytes of the text, from 0. A search needs `&mut self`, so each thread has a regex of its
+/// own, by [`Regex::try_clone`].
+///
+/// # Errors of a search
+///
+/// A search that exceeds a limit returns `RuntimeError` (of backtracks, steps or branches), `VisitLimitExceeded` or
+/// `MemoryLimitExceeded`. If an allocation fails it returns `Memory`. After an error the regex can be used again.
+///
+/// # Examples
+///
+/// ```
+/// let mut date = Regex::new(alloc, "(?<year>[0-9]{4})-(?<month>[0-9]{2})")?;
+/// let found = date.find("on 2026-11-24")?; // 3..10, "2026-11"
+/// ```
 pub struct Regex {
     pub(crate) pattern: String,
     pub(crate) options: RegexOptions,
@@ -57,7 +72,19 @@ impl Drop for Regex {
 }
 
 impl Regex {
-    /// The regex of a pattern, with the default options, as `RegexBuilder` makes it.
+    /// Compiles a pattern with the default options. [`RegexBuilder`] has others.
+    ///
+    /// # Errors
+    ///
+    /// `ParseError`, with the byte of the pattern and the kind of fault, if it cannot be read. `AnalysisLimitExceeded`,
+    /// `CompileError` or `NestLimitExceeded` if it is refused. `Memory` if an allocation fails.
+    ///
+    /// # Examples
+    ///
+    /// ```
+    /// let mut word = Regex::new(alloc, "[a-z]+")?;
+    /// let fault = Regex::new(alloc, "a(b"); // Err(ParseError(3, UnclosedOpenParen))
+    /// ```
     pub fn new(alloc: Global, pattern: &str) -> Result<Regex, Error>
         ensures { MatchResult result
             (IsBuilt pattern.now default_options)
@@ -66,8 +93,12 @@ impl Regex {
         RegexBuilder::new(pattern).build(alloc)
     }
 
-    /// The same regex once more. Both share the program and the names, and each has memory of its own for its searches, so
-    /// that two threads may take one each. The only error is want of memory.
+    /// Makes a copy of the regex, for another thread. Both share the program and the names, and each has memory of its own
+    /// for its searches.
+    ///
+    /// # Errors
+    ///
+    /// `Memory` if an allocation fails; there is no other.
     pub fn try_clone(&self) -> Result<Regex, Error>
         ensures same { MatchResult result (IsSame self.now) (λ e. e ≡ Error.Memory) }
         ensures built { (pattern : List ℕ) (o : RegexOptions)
@@ -81,21 +112,21 @@ impl Regex {
         })
     }
 
-    /// The pattern.
+    /// The pattern that the regex was compiled from.
     pub fn as_str(&self) -> &str
         ensures { result.now ≡ pattern_of self.now }
     {
         self.pattern.as_str()
     }
 
-    /// How many groups the pattern has, with group 0.
+    /// How many groups the pattern has, set in a match or not; group 0, the match, is one of them.
     pub fn captures_len(&self) -> usize
         ensures { result ≡ group_count (names_of self.now) }
     {
         self.names.count
     }
 
-    /// The names of all groups, from group 0 on; none for a group without a name.
+    /// The names of all groups, from group 0 on, as an iterator. An item is `None` if its group has no name.
     pub fn capture_names(&self) -> CaptureNames<'_>
         ensures names { result.names.now ≡ names_of self.now }
         ensures first { result.next ≡ 0 }
@@ -188,7 +219,7 @@ impl Regex {
         }
     }
 
-    /// What the pattern was compiled to, as a `Scanner` of fancy_scanner takes it.
+    /// Takes the regex apart into the compiled tree, which a `Scanner` of fancy_scanner takes.
     pub fn into_engine(self) -> Engine
         ensures { result ≡ engine_of self }
     {
@@ -201,7 +232,18 @@ impl Regex {
         engine
     }
 
-    /// Whether there is a match.
+    /// Whether the text has a match.
+    ///
+    /// # Errors
+    ///
+    /// Those of a search; see [`Regex`].
+    ///
+    /// # Examples
+    ///
+    /// ```
+    /// let mut digit = Regex::new(alloc, "[0-9]")?;
+    /// let has_digit = digit.is_match("room 7")?; // true
+    /// ```
     pub fn is_match(&mut self, text: &str) -> Result<bool, Error>
         ensures promise { (i : Input)
             → (o : plain.RunOptions)
@@ -217,7 +259,19 @@ impl Regex {
         }
     }
 
-    /// The first match.
+    /// Finds the first match: the one with the earliest start, and of several there the first in the order of
+    /// preference, or the longest under `leftmost_longest`. `Ok(None)` means that there is no match.
+    ///
+    /// # Errors
+    ///
+    /// Those of a search; see [`Regex`].
+    ///
+    /// # Examples
+    ///
+    /// ```
+    /// let mut price = Regex::new(alloc, "(?<=\\$)[0-9]+")?;
+    /// let found = price.find("tea 2, cake $42")?; // 13..15, "42"
+    /// ```
     pub fn find<'t>(&mut self, text: &'t str) -> Result<Option<Match<'t>>, Error>
         ensures promise { (i : Input)
             → (o : plain.RunOptions)
@@ -231,8 +285,21 @@ impl Regex {
         self.matched(found)
     }
 
-    /// The first match from this place on, a byte of the text. What stands before it is seen by look-behind, and
-    /// `^` does not hold there.
+    /// Finds the first match that starts at `pos` or later. Look-behind and `\b` see the text before `pos`, and `^` holds
+    /// where it does in the whole text: at 0, and with the flag `m` after a line feed.
+    ///
+    /// `pos` is in bytes: the start of a character of the text, or the length of the text. The caller proves this.
+    ///
+    /// # Errors
+    ///
+    /// Those of a search; see [`Regex`].
+    ///
+    /// # Examples
+    ///
+    /// ```
+    /// let mut word = Regex::new(alloc, "[a-z]+")?;
+    /// let found = word.find_from_pos("ab cd", 2)?; // 3..5, "cd"
+    /// ```
     pub fn find_from_pos<'t>(
         &mut self,
         text: &'t str,
@@ -251,7 +318,21 @@ impl Regex {
         self.matched(found)
     }
 
-    /// The groups of the first match.
+    /// Finds the first match, as `find` does, with its groups.
+    ///
+    /// # Errors
+    ///
+    /// Those of a search; see [`Regex`].
+    ///
+    /// # Examples
+    ///
+    /// ```
+    /// let mut date = Regex::new(alloc, "(?<year>[0-9]{4})-([0-9]{2})")?;
+    /// if let Some(groups) = date.captures("on 2026-11-24")? {
+    ///     let year = groups.name("year"); // Some, 3..7
+    ///     let month = groups.get(2);      // Some, 8..10
+    /// }
+    /// ```
     pub fn captures<'t>(&mut self, text: &'t str) -> Result<Option<Captures<'t>>, Error>
         ensures promise { (i : Input)
             → (o : plain.RunOptions)
@@ -267,7 +348,11 @@ impl Regex {
         self.captured(found)
     }
 
-    /// The groups of the first match from this place on, a byte of the text, as `find_from_pos` finds it.
+    /// Finds the first match from `pos` on, as `find_from_pos` does, with its groups.
+    ///
+    /// # Errors
+    ///
+    /// Those of a search; see [`Regex`].
     pub fn captures_from_pos<'t>(
         &mut self,
         text: &'t str,
@@ -288,8 +373,12 @@ impl Regex {
         self.captured(found)
     }
 
-    /// The next match of the list that stands so, with its groups; the list then stands after it. After an error the list
-    /// has ended.
+    /// Finds the next match of a list, with its groups, and moves `standing` after it. `None` means that the list has
+    /// ended; `Standing::first()` begins one. [`Regex::captures_iter`] is an iterator over the same list.
+    ///
+    /// # Errors
+    ///
+    /// The item is an error of the search; see [`Regex`]. The list has ended then.
     pub fn next_captures<'t>(
         &mut self,
         text: &'t str,
@@ -321,8 +410,12 @@ impl Regex {
         }
     }
 
-    /// The next match of the list that stands so, without its groups; the list then stands after it. After an error the
-    /// list has ended.
+    /// Finds the next match of a list, without its groups, and moves `standing` after it. `None` means that the list has
+    /// ended; `Standing::first()` begins one. [`Regex::find_iter`] is an iterator over the same list.
+    ///
+    /// # Errors
+    ///
+    /// The item is an error of the search; see [`Regex`]. The list has ended then.
     pub fn next_match<'t>(
         &mut self,
         text: &'t str,
@@ -347,8 +440,12 @@ impl Regex {
         }
     }
 
-    /// All matches, one after the other, each with its groups. They do not overlap. The regex is the caller's again once
-    /// the iterator is gone.
+    /// All matches from left to right, each with its groups, as an iterator. Matches do not overlap. The iterator borrows
+    /// the regex.
+    ///
+    /// # Errors
+    ///
+    /// An item can be an error of the search; see [`Regex`]. No item follows it.
     pub fn captures_iter<'r, 't>(&'r mut self, text: &'t str) -> CaptureMatches<'r, 't>
         ensures begins { Begins self.entry text.now (captures_iteration result) }
         ensures apart { AreAllApart self.old text.now }
@@ -360,8 +457,21 @@ impl Regex {
         }
     }
 
-    /// All matches, one after the other, without their groups. They do not overlap. The regex is the caller's again once
-    /// the iterator is gone.
+    /// All matches from left to right, without their groups, as an iterator. Matches do not overlap, and an empty match
+    /// directly after another match is left out. The iterator borrows the regex.
+    ///
+    /// # Errors
+    ///
+    /// An item can be an error of the search; see [`Regex`]. No item follows it.
+    ///
+    /// # Examples
+    ///
+    /// ```
+    /// let mut number = Regex::new(alloc, "[0-9]+")?;
+    /// for found in number.find_iter("1, 20 and 3") {
+    ///     let range = found?.range(); // 0..1, then 3..5, then 10..11
+    /// }
+    /// ```
     pub fn find_iter<'r, 't>(&'r mut self, text: &'t str) -> Matches<'r, 't>
         ensures begins { Begins self.entry text.now (matches_iteration result) }
         ensures apart { AreAllApart self.old text.now }
@@ -373,7 +483,12 @@ impl Regex {
         }
     }
 
-    /// The text with its first match replaced, and the text itself where there is none.
+    /// The text with its first match replaced, or the text itself, borrowed, if there is no match. [`Replacement`] says
+    /// what `by` can be.
+    ///
+    /// # Errors
+    ///
+    /// Those of a search; see [`Regex`].
     pub fn replace<'t, R: Replacement + Drop>(
         &mut self,
         text: &'t str,
@@ -386,7 +501,19 @@ impl Regex {
         self.replacen(text, 1, by)
     }
 
-    /// The text with all its matches replaced, and the text itself where there is none.
+    /// The text with all its matches replaced, or the text itself, borrowed, if there is no match. [`Replacement`] says
+    /// what `by` can be: in a text, `$1` and `$name` are groups, and `$$` is a dollar sign.
+    ///
+    /// # Errors
+    ///
+    /// Those of a search; see [`Regex`].
+    ///
+    /// # Examples
+    ///
+    /// ```
+    /// let mut date = Regex::new(alloc, "(?<year>[0-9]{4})-(?<month>[0-9]{2})")?;
+    /// let turned = date.replace_all("2026-11 and 2027-01", "$month/$year")?; // "11/2026 and 01/2027"
+    /// ```
     pub fn replace_all<'t, R: Replacement + Drop>(
         &mut self,
         text: &'t str,
@@ -399,10 +526,12 @@ impl Regex {
         self.replacen(text, 0, by)
     }
 
-    /// The text with its first `limit` matches replaced, all of them where that is 0, and the text itself where there is
-    /// none.
+    /// The text with its first `limit` matches replaced, all of them if `limit` is 0, or the text itself, borrowed, if
+    /// there is no match.
     ///
-    /// A limit that a search passes is answered by its name. Want of memory is `Error::Memory`.
+    /// # Errors
+    ///
+    /// Those of a search; see [`Regex`].
     pub fn replacen<'t, R: Replacement + Drop>(
         &mut self,
         text: &'t str,

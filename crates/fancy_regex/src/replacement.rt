@@ -1,4 +1,4 @@
-//! What may be given as a replacement.
+//! What a replacement can be.
 
 ghost use Rattle.std.specs.Prelude.{◌≡◌, ℕ, IfOk, List};
 ghost use Rattle.fancy_analysis.specs.Names.{names_of};
@@ -12,14 +12,25 @@ use fancy_replace::template::Template;
 use std::alloc::{AllocError, Global};
 use std::collections::BTreeMap;
 
-/// What may be given as a replacement: a text with references to groups, or a `Replacer`.
+/// What a replacement can be:
+///
+/// - a `&str`, in which `$1`, `${1}`, `$name` and `${name}` are groups, and `$$` is a dollar sign;
+/// - a `Template`, which is such a text, read once;
+/// - `NoExpand`, a text that is written as it is;
+/// - `Parts`, a list of texts and groups.
+///
+/// A group that is not set, or that the pattern does not have, writes nothing.
 pub trait Replacement {
     // What it writes, by the names of the groups, the text, and the start and end of each group of the match.
     ghost replacement_text: { Self → Names → List ℕ → List ℕ → List ℕ };
 
     type By: Replacer + Drop;
 
-    /// What writes it, by the names of the groups. The only error is want of memory.
+    /// Makes the `Replacer` that writes the replacement. `names` has the numbers of the groups with each name.
+    ///
+    /// # Errors
+    ///
+    /// `AllocError` if an allocation fails.
     fn replacer(
         self,
         alloc: Global,
@@ -29,7 +40,7 @@ pub trait Replacement {
             ≡ replacement_text self (names_of names.now.entries)) };
 }
 
-/// A text with references to groups, as `Template` reads it.
+/// A text with references to groups, which `Template` reads.
 impl<'a> Replacement for &'a str {
     ghost replacement_text = { λ text names. expansion names text.now };
 
@@ -44,7 +55,7 @@ impl<'a> Replacement for &'a str {
     }
 }
 
-/// The text as it stands.
+/// The text as it is.
 impl<'a> Replacement for NoExpand<'a> {
     ghost replacement_text = { λ r names text numbers. r.0.now };
 

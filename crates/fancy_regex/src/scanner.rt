@@ -22,7 +22,7 @@ use fancy_scanner::scanner::{ScanTree, Scanner as TreeScanner, Stopped};
 use std::alloc::{AllocError, Global};
 use std::sync::Arc;
 
-/// A pattern that is compiled for a scanner, with the names of its groups.
+/// A pattern compiled for a scanner, with the names of its groups.
 #[derive(Drop)]
 pub(crate) struct ScanPattern {
     pub(crate) compiled: ScanTree,
@@ -30,6 +30,16 @@ pub(crate) struct ScanPattern {
 }
 
 /// Patterns that are searched for together, as the rules of a highlighter are, each with the memory of its searches.
+///
+/// # Examples
+///
+/// ```
+/// let mut rules = Scanner::new(alloc);
+/// rules.add("\"[^\"]*\"")?;
+/// rules.add("[a-z]+")?;
+/// let step = rules.find("1 \"ab\" cd")?;
+/// // step.found: index 0, whole 2..6
+/// ```
 pub struct Scanner {
     pub(crate) alloc: Global,
     pub(crate) trees: TreeScanner,
@@ -48,7 +58,7 @@ impl Drop for Scanner {
 }
 
 impl Scanner {
-    /// No pattern yet, and no memory.
+    /// A scanner without patterns. It allocates nothing.
     pub fn new(alloc: Global) -> Scanner
         ensures rules { (text : List ℕ) → IsScannerOf [] text result }
         ensures names { names_listed result ≡ [] }
@@ -60,9 +70,11 @@ impl Scanner {
         }
     }
 
-    /// One more pattern, after the others, with the default options.
+    /// Adds a pattern after the others, with the default options.
     ///
-    /// It is refused as `Regex::new` refuses it. After an error the scanner is as it was.
+    /// # Errors
+    ///
+    /// Those of `Regex::new`. After an error the scanner has the patterns that it had.
     pub fn add(&mut self, pattern: &str) -> Result<(), Error>
         ensures ok { OnOk result (Adds pattern.now default_options self.old self.new) }
         ensures refused { IfErr result (IsRefused pattern.now default_options) }
@@ -71,9 +83,11 @@ impl Scanner {
         self.add_built(&RegexBuilder::new(pattern))
     }
 
-    /// One more pattern, after the others, with the options of the builder.
+    /// Adds a pattern after the others, with the options of the builder.
     ///
-    /// It is refused as `RegexBuilder::build` refuses it. After an error the scanner is as it was.
+    /// # Errors
+    ///
+    /// Those of `RegexBuilder::build`. After an error the scanner has the patterns that it had.
     pub fn add_built(&mut self, builder: &RegexBuilder<'_>) -> Result<(), Error>
         ensures ok { OnOk result (Adds
             builder.now.pattern.now (options builder.now) self.old self.new) }
@@ -91,9 +105,8 @@ impl Scanner {
         }
     }
 
-    /// A scan of one text, which keeps what it finds of each pattern from one place to the next. The scanner is the
-    /// caller's again once the scan is gone; that it has the same patterns is known where `ScanText::into_scanner` ends
-    /// the scan.
+    /// Begins a scan of one text, which keeps what it finds of each pattern from one position to the next. The scan borrows
+    /// the scanner. `ScanText::into_scanner` ends it, with the promise that the patterns are the same.
     pub fn scan<'r, 't>(&'r mut self, text: &'t str) -> ScanText<'r, 't>
         ensures { BeginsScan self.entry text.now result }
     {
@@ -105,7 +118,11 @@ impl Scanner {
         }
     }
 
-    /// The match that begins first in the text, as a scan finds it from the text's start on.
+    /// Finds the match that begins first in the text, as `ScanText::find_from` does from byte 0 on.
+    ///
+    /// # Errors
+    ///
+    /// `Memory` if an allocation fails; there is no other. A limit that a pattern exceeds is reported in the step.
     pub fn find<'t>(&mut self, text: &'t str) -> Result<ScanStep<'t>, Error>
         ensures first { (rules : List Rule)
             → IsScannerOf rules text.now self.old → FindsFirst text.now rules result }
@@ -121,23 +138,25 @@ impl Scanner {
 /// A match of one of the patterns, without its groups.
 #[derive(Clone, Copy)]
 pub struct ScanMatch<'t> {
-    /// Which pattern it is of: how many were added before it.
+    /// The pattern that matched: how many patterns were added before it.
     pub index: usize,
+    /// The match itself, which is group 0.
     pub whole: Match<'t>,
 }
 
-/// What the patterns of a scan come to from a place on.
+/// What a scan finds from a position on.
 #[derive(Clone, Copy)]
 pub struct ScanStep<'t> {
-    /// The match that begins first, of the first matches of the patterns that answered; of several that begin there that of
-    /// the pattern that was added first. `ScanText::captures` has its groups.
+    /// The first matches of all patterns are compared, and this is the one that begins first. Of several that begin there
+    /// it is that of the pattern that was added first. `ScanText::captures` has its groups.
     pub found: Option<ScanMatch<'t>>,
-    /// The first pattern whose search passed a limit, if there is one, by how many were added before it.
+    /// The first pattern whose search exceeded a limit, if there is one: how many were added before it, and the limit.
+    /// Whether that pattern has a match is not known.
     pub stopped: Option<Stopped>,
 }
 
 impl<'t> ScanStep<'t> {
-    /// What a scan by trees told.
+    /// What a scan by trees found.
     fn of(step: by_trees::ScanStep<'t>) -> ScanStep<'t>
         ensures { tree_step result ≡ step.entry }
     {
@@ -163,11 +182,11 @@ impl<'t> ScanMatch<'t> {
     }
 }
 
-/// A scan of one text from place to place for the patterns of a scanner, as a highlighter makes it.
+/// A scan of one text for the patterns of a scanner, from position to position, as a highlighter makes it.
 ///
-/// What is found of a pattern is kept as long as it holds, and the pattern is searched for again only from a place past
-/// that. So a scan from left to right goes over the text once for each pattern, and not once for each place. A pattern with
-/// a `\G` is searched for at each place, and one with a `\K` until it is not found any more.
+/// It keeps each match that it finds, and searches for a pattern again only from a position after its match. So a scan
+/// from left to right reads the text once for each pattern, and not once for each position. Exceptions: a pattern with a
+/// `\G` is searched for at each position, and one with a `\K` until it has no match.
 #[derive(Drop)]
 pub struct ScanText<'r, 't> {
     pub(crate) scanner: &'r mut Scanner,
@@ -176,11 +195,15 @@ pub struct ScanText<'r, 't> {
 }
 
 impl<'r, 't> ScanText<'r, 't> {
-    /// The match that begins first, of the first matches of all patterns from this place on, a byte of the text; of several
-    /// that begin there that of the pattern that was added first.
+    /// Finds the match that begins first, of the first matches of all patterns from `pos` on. Of several that begin there
+    /// it is that of the pattern that was added first.
     ///
-    /// A pattern whose search passes a limit does not hide the matches of the others: the first such pattern is told beside
-    /// them. Want of memory is `Error::Memory`.
+    /// `pos` is in bytes: the start of a character of the text, or the length of the text. The caller proves this. A
+    /// pattern whose search exceeds a limit does not hide the matches of the others: `ScanStep::stopped` reports it.
+    ///
+    /// # Errors
+    ///
+    /// `Memory` if an allocation fails; there is no other.
     pub fn find_from(&mut self, pos: usize) -> Result<ScanStep<'t>, Error>
         requires { IsTrue (places.is_place (text_of self.old) pos) }
         ensures promise { (rules : List Rule)
@@ -209,10 +232,12 @@ impl<'r, 't> ScanText<'r, 't> {
         }
     }
 
-    /// The groups of the match that is kept of the pattern with this number, with their names: after `find_from` found a
-    /// match of it, those of this match. None where nothing of the pattern is kept, or that it has no match.
+    /// The groups of the match that the scan keeps for the pattern `index`. After `find_from` has found a match of this
+    /// pattern it is that match. `None` if nothing is kept for the pattern, or if it has no match.
     ///
-    /// The only error is want of memory.
+    /// # Errors
+    ///
+    /// `Memory` if an allocation fails; there is no other.
     pub fn captures(&self, index: usize) -> Result<Option<Captures<'t>>, Error>
         ensures { MatchResult result
             (λ found. option_map named_groups found ≡ kept_groups self.now index)
@@ -227,14 +252,14 @@ impl<'r, 't> ScanText<'r, 't> {
         Ok(Some(named(groups, names)?))
     }
 
-    /// The text.
+    /// The text that is scanned.
     pub fn text(&self) -> &'t str
         ensures { result.now ≡ text_of self.now }
     {
         self.text
     }
 
-    /// Ends the scan and gives the scanner back, with the same patterns.
+    /// Ends the scan and returns the scanner, with the same patterns.
     pub fn into_scanner(self) -> &'r mut Scanner
         ensures name { result.ghost_name ≡ (scanner_of self.entry).ghost_name }
         ensures same { result.now ≡ (scanner_of self.entry).now }
@@ -243,7 +268,7 @@ impl<'r, 't> ScanText<'r, 't> {
     }
 }
 
-/// These groups once more, with these names.
+/// A copy of these groups, with these names.
 fn named<'t>(groups: &Groups<'t>, names: &Arc<GroupNames>) -> Result<Captures<'t>, AllocError>
     ensures { IfOk result (λ c.
         (shown_captures c ≡ engine.shown_captures groups.now)

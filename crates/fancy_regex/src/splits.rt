@@ -10,10 +10,8 @@ use crate::error::Error;
 use crate::regexes::Regex;
 use fancy_replace::pieces::Pieces;
 
-/// The pieces of a text between its matches, from left to right: one more than there are matches. The regex is the
-/// caller's again once the iterator is gone.
-///
-/// A limit or a refusal of memory is an item, and after it there are no more.
+/// The pieces of a text between its matches, from left to right; [`Regex::split`] makes it. There is one more piece than
+/// there are matches. After an error there are no more items.
 #[derive(Drop)]
 pub struct Split<'r, 't> {
     pub(crate) regex: &'r mut Regex,
@@ -35,7 +33,7 @@ impl<'r, 't> Iterator for Split<'r, 't> {
 }
 
 impl Regex {
-    /// The next of these pieces of a text. After an error there are no more.
+    /// The next piece of a text. After an error there are no more.
     pub(crate) fn next_piece<'t>(
         &mut self,
         pieces: &mut Pieces<'t>,
@@ -56,8 +54,21 @@ impl Regex {
         }
     }
 
-    /// The pieces of the text between its matches, one more than these. The regex is the caller's again once the
-    /// iterator is gone.
+    /// The pieces of the text between its matches, as an iterator. There is one more piece than there are matches, and a
+    /// piece can be empty. The iterator borrows the regex.
+    ///
+    /// # Errors
+    ///
+    /// An item can be an error of the search; see [`Regex`]. No item follows it.
+    ///
+    /// # Examples
+    ///
+    /// ```
+    /// let mut comma = Regex::new(alloc, ",\\s*")?;
+    /// for piece in comma.split("one, two,three") {
+    ///     let text = piece?; // "one", then "two", then "three"
+    /// }
+    /// ```
     pub fn split<'r, 't>(&'r mut self, text: &'t str) -> Split<'r, 't>
         ensures pieces { BeginsSplit self.entry text.now (all_pieces text.now) result }
         ensures join { PiecesAndMatchesJoin (engine_of self.old) text.now }
@@ -68,7 +79,11 @@ impl Regex {
         }
     }
 
-    /// As `split`, but at most `limit` pieces, of which the last is the rest of the text with all its matches.
+    /// As `split`, but with `limit` pieces at most. The last of them is the rest of the text, with all its matches.
+    ///
+    /// # Errors
+    ///
+    /// Those of `split`.
     pub fn splitn<'r, 't>(&'r mut self, text: &'t str, limit: usize) -> Split<'r, 't>
         ensures pieces { BeginsSplit self.entry text.now (most_pieces text.now limit) result }
         ensures join { MostPiecesJoin (engine_of self.old) text.now limit }
