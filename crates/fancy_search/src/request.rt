@@ -1,4 +1,4 @@
-//! What a user asks of a search, said once for all stages.
+//! The options of a search as a user gives them, once for all stages.
 
 ghost use Rattle.std.specs.Prelude.{◌≡◌};
 ghost use Rattle.fancy_steps.specs.Tasks.{options_of as run_options_of};
@@ -9,31 +9,31 @@ use fancy_analysis::analyze::AnalyzeContext;
 use fancy_compile::compile::{BytesMode, CompileOptions};
 use fancy_vm::vm::RunOptions;
 
-/// What a user asks of a search: where it begins, its flags, and its limits. Group 0 is implicit.
+/// The options of a search as a user gives them: where it begins, its flags, and its limits. Group 0 is implicit. Each field
+/// says which stage reads it.
 #[derive(Clone, Copy, Debug, Drop)]
 pub struct Request {
-    /// Where the search begins, a byte of the text.
+    /// The byte of the text where the search begins.
     pub pos: usize,
-    /// Only the first start is tried: said to the compiler.
+    /// Only the first start is tried; for the compiler.
     pub compile_anchored: bool,
-    /// Only the first start is tried: said to the search.
+    /// Only the first start is tried; for the search.
     pub anchored: bool,
-    /// No match ended at `pos`: said to the search.
+    /// No match ended at `pos`, so `\G` fails there; for the search.
     pub not_continued: bool,
-    /// A match has to take something: said to the analysis and the search.
+    /// A match is not empty; for the analysis and the search.
     pub not_empty: bool,
-    /// No match that takes nothing at the end of the text, after a newline: said to the analysis and the compiler.
+    /// No empty match at the end of a text after a newline; for the analysis and the compiler.
     pub end_text: bool,
-    /// Folding, word characters and classes go by ASCII: said to the compiler.
+    /// Folding, word characters and classes are those of ASCII; for the compiler.
     pub ascii: bool,
-    /// Of the matches at the earliest start the longest one, in bytes, and not the first: said to the analysis and the
-    /// search.
+    /// The longest match, in bytes, at the earliest start, and not the first one; for the analysis and the search.
     pub longest: bool,
-    /// How many instructions a program may have.
+    /// How many instructions the program may have; `None` is no limit.
     pub max_prog_size: Option<usize>,
-    /// How many nodes may be written out in one another, calls with them; without it there is no bound but the stack.
+    /// How many nodes may nest in one another, with calls written out; `None` is no limit but the stack.
     pub max_nesting: Option<usize>,
-    /// How often a search may fall back to a branch.
+    /// How often a search may backtrack to a branch.
     pub backtrack_limit: usize,
     /// How many instructions a search may execute.
     pub step_limit: u64,
@@ -52,7 +52,7 @@ impl Request {
         }
     }
 
-    /// How it is compiled.
+    /// How the tree is compiled.
     pub fn compilation(&self) -> CompileOptions
         ensures { result ≡ asked.compilation self.now }
     {
@@ -67,7 +67,7 @@ impl Request {
         }
     }
 
-    /// How its program is run.
+    /// How the program is run.
     pub fn running(&self) -> RunOptions
         ensures { run_options_of result ≡ asked.running self.now }
     {
@@ -82,7 +82,7 @@ impl Request {
         }
     }
 
-    /// The options of the three stages. They fit each text that has a place at `pos`.
+    /// The options of the three stages. They fit each text that has a character boundary at `pos`.
     pub fn options(&self) -> SearchOptions
         ensures analysis { result.analysis ≡ asked.analysis self.now }
         ensures compilation { result.compilation ≡ asked.compilation self.now }

@@ -35,7 +35,7 @@ pub struct SearchOptions {
     pub run: RunOptions,
 }
 
-/// A tree may be analysed and compiled with these options: the end-of-text option of the compiler is set only with
+/// Whether a tree may be analysed and compiled with these options: the end-of-text option of the compiler is set only with
 /// that of the analysis.
 pub fn options_fit(context: AnalyzeContext, options: CompileOptions) -> bool
     ensures { result ≡ searches.options_fit context options }
@@ -45,9 +45,9 @@ pub fn options_fit(context: AnalyzeContext, options: CompileOptions) -> bool
 }
 
 impl SearchOptions {
-    /// A search of the text with these options may be made: `options_fit`, group 0 is implicit, `run.pos` is a
-    /// character boundary of the text, `run.not_empty` is set only with `analysis.find_not_empty`, and
-    /// `run.leftmost_longest` only with `analysis.leftmost_longest`.
+    /// Whether these options fit a search of the text: `options_fit`, group 0 is implicit, `run.pos` is a character boundary
+    /// of the text, `run.not_empty` is set only with `analysis.find_not_empty`, and `run.leftmost_longest` only with
+    /// `analysis.leftmost_longest`.
     pub fn fits(&self, text: &str) -> bool
         ensures { result ≡ search_fits self.now text.now }
     {
@@ -89,10 +89,10 @@ impl Default for SearchOptions {
     }
 }
 
-/// A tree that was compiled for searches: its program.
+/// A tree that was compiled for searches: its program, and what is known of its matches.
 pub struct Compiled {
     prog: Prog,
-    /// How many characters each match takes at least.
+    /// How many characters each match has at least.
     min_size: usize,
 }
 
@@ -107,11 +107,13 @@ impl Drop for Compiled {
 }
 
 impl Compiled {
-    /// Analyses and compiles the tree.
+    /// Analyses and compiles the tree, for many searches.
     ///
-    /// A tree is refused as `Error::CompileError` where a case of `analyze` or `compile` holds, and as
-    /// `Error::NestLimitExceeded` where more of its nodes are written out in one another than `options.max_nesting`.
-    /// Want of memory is `Error::Memory`.
+    /// # Errors
+    ///
+    /// `CompileError` if a case of `analyze` or `compile` holds, such as a reference to a group that is not there.
+    /// `NestLimitExceeded` if more nodes nest in one another, with calls written out, than `options.max_nesting`.
+    /// `Memory` if an allocation fails.
     pub fn new(
         alloc: Global,
         tree: &ExprTree,
@@ -133,14 +135,14 @@ impl Compiled {
         Ok(Compiled { prog, min_size })
     }
 
-    /// The program.
+    /// The program of the tree.
     pub fn program(&self) -> &Prog
         ensures { result.now ≡ program self.now }
     {
         &self.prog
     }
 
-    /// The program alone.
+    /// Takes this apart into the program alone.
     pub fn into_program(self) -> Prog
         ensures { result ≡ program self }
     {
@@ -148,7 +150,7 @@ impl Compiled {
         prog
     }
 
-    /// Fewer bytes are left from this byte of the text on than each match takes: a search from there has no match.
+    /// Whether fewer bytes are left from byte `pos` of the text on than each match has: a search from there finds no match.
     #[inline(always)]
     pub fn is_too_short(&self, text: &str, pos: usize) -> bool
         ensures { IsTrue result → (i : Input) (o : plain.RunOptions)
@@ -158,7 +160,7 @@ impl Compiled {
         self.exceeds_rest(text, pos)
     }
 
-    /// Each match takes more characters than bytes are left from this byte of the text on.
+    /// Whether each match has more characters than there are bytes from byte `pos` of the text on.
     #[inline(always)]
     fn exceeds_rest(&self, text: &str, pos: usize) -> bool
         ensures { IsTrue result → length text.now - pos < self.now.min_size }
@@ -166,21 +168,23 @@ impl Compiled {
         text.len().saturating_sub(pos) < self.min_size
     }
 
-    /// A search of the text with these options may be made: `pos` is a character boundary of the text, and
-    /// `not_empty` and `leftmost_longest` are set only where the analysis had `find_not_empty` and `leftmost_longest`.
+    /// Whether these options fit a search of the text: `pos` is a character boundary of the text, and `not_empty` and
+    /// `leftmost_longest` are set only if the analysis had `find_not_empty` and `leftmost_longest`.
     pub fn fits(&self, text: &str, options: &RunOptions) -> bool
         ensures { result ≡ run_fits (task_of (program self.now) text.now options.now) }
     {
         options.fits(&self.prog, text)
     }
 
-    /// Searches the text from `options.pos` on, a byte of it, for the tree that was compiled: start and end of each
-    /// group from 0 up, in bytes of the text, with `usize::MAX` for a group that is not set, or none. Where `is_too_short`
-    /// there is none, and nothing is run.
+    /// Searches the text from byte `options.pos` on. Returns start and end of each group from 0 up, in bytes of the text,
+    /// with `usize::MAX` twice for a group that is not set, or `None` if there is no match. If `is_too_short`, there is no
+    /// match, and nothing is run.
     ///
-    /// A `RuntimeError` tells which limit was passed, and `Memory` that a request for memory was refused or a limit of
-    /// the scratch was passed. The scratch may be used again after either. Where the whole tree is easy, limits of one backtrack and eight instructions for
-    /// each start are never passed.
+    /// # Errors
+    ///
+    /// `RuntimeError` if the search exceeds the limit of backtracks, steps or branches that it names. `Memory` if an
+    /// allocation fails or the search exceeds a limit of the scratch, which `Scratch::passed` names. The scratch can be used
+    /// again after an error. An easy tree never exceeds limits of one backtrack and eight instructions for each start.
     pub fn search(
         &self,
         alloc: Global,
@@ -205,8 +209,12 @@ impl Compiled {
         run(alloc, &self.prog, text, options, scratch)
     }
 
-    /// As `search`, but it answers whether there is a match, and writes its numbers over these, in the memory that they
-    /// have. Without a match, and with an error, nothing is said of the numbers.
+    /// As `search`, but it returns whether there is a match, and writes the numbers over `numbers`, in the memory that it
+    /// has. Without a match, and after an error, `numbers` may hold anything.
+    ///
+    /// # Errors
+    ///
+    /// Those of `search`.
     pub fn search_into(
         &self,
         alloc: Global,
@@ -233,16 +241,24 @@ impl Compiled {
     }
 }
 
-/// Searches the text for the tree, by `analyze`, `compile` and `run`: start and end of each group from 0 up, in bytes
-/// of the text, with `usize::MAX` for a group that is not set, or none. It is the first admitted way at the earliest
-/// start that has one, and with `run.leftmost_longest` the longest one there, the first among equals.
+/// Searches the text for the tree once, by `analyze`, `compile` and `run`. Returns start and end of each group from 0 up, in
+/// bytes of the text, with `usize::MAX` twice for a group that is not set, or `None` if there is no match. The match is the
+/// first admitted way at the earliest start that has one. With `run.leftmost_longest` it is the longest one there, and of
+/// several as long the first.
 ///
-/// `tree` has passed `is_well_formed`, and the options `SearchOptions::fits`. A tree is refused as
-/// `Error::CompileError` where a case of `analyze` or `compile` holds, and as `Error::NestLimitExceeded` where more of
-/// its nodes are written out in one another than `compilation.max_nesting`: never without that limit. A `RuntimeError`
-/// tells which limit the search passed, and `Memory` that a request for memory was refused. The scratch may be used
-/// again after any of them. Where the whole tree is easy, limits of one backtrack and eight instructions for each start
-/// are never passed.
+/// The caller proves that `tree` is well-formed (`is_well_formed`) and that the options fit (`SearchOptions::fits`).
+///
+/// # Errors
+///
+/// Those of `Compiled::new`, and then those of `Compiled::search`.
+///
+/// # Examples
+///
+/// ```
+/// let mut scratch = Scratch::new(alloc);
+/// let found = search(alloc, &tree, "xabcd", &SearchOptions::default(), &mut scratch)?;
+/// // of the tree of `a(b|bc)d`: Some([1, 5, 2, 4])
+/// ```
 pub fn search(
     alloc: Global,
     tree: &ExprTree,
