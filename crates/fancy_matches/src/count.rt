@@ -8,9 +8,11 @@ ghost use Rattle.fancy_matches.specs.Regexes.{Counts, IsNoLimitWhereEasy, IsRege
 use crate::regexes::Regex;
 use fancy_expr::error::Error;
 
-/// How many matches the text has. The regex is the caller's again afterwards, of the same tree.
+/// How many matches the text has, of the list that `Regex::find_iter` gives.
 ///
-/// A limit that a search passes is answered by its name. Want of memory is `Error::Memory`.
+/// # Errors
+///
+/// Those of `Regex::find`.
 pub fn count_matches(regex: &mut Regex, text: &str) -> Result<usize, Error>
     ensures count { (i : Input)
         → (o : plain.RunOptions)

@@ -8,7 +8,7 @@ ghost use Rattle.fancy_matches.specs.Listing.{AreSpans, group_span};
 
 use std::alloc::{AllocError, Global};
 
-/// A part of a text that matched.
+/// A match: a part of a text, with its place. Positions are in bytes of the text, from 0.
 #[derive(Clone, Copy)]
 pub struct Match<'t> {
     pub(crate) text: &'t str,
@@ -20,21 +20,21 @@ pub struct Match<'t> {
 impl<'t> Match<'t> {
     ghost use Rattle.fancy_matches.specs.Regexes.{span_of, text_of};
 
-    /// Where it begins, in bytes of the text.
+    /// The byte where the match begins.
     pub fn start(&self) -> usize
         ensures { result ≡ (span_of self.now).0 }
     {
         self.start
     }
 
-    /// Where it ends.
+    /// The byte where the match ends: the first one after it.
     pub fn end(&self) -> usize
         ensures { result ≡ (span_of self.now).1 }
     {
         self.end
     }
 
-    /// What matched.
+    /// The part of the text that matched.
     pub fn as_str(&self) -> &'t str
         ensures { result.now
             ≡ slice_range (text_of self.now) (span_of self.now).0 (span_of self.now).1 }
@@ -43,7 +43,7 @@ impl<'t> Match<'t> {
     }
 }
 
-/// The groups of a match.
+/// A match with its groups, by their numbers. Group 0 is the match itself.
 pub struct Captures<'t> {
     pub(crate) text: &'t str,
     pub(crate) numbers: Vec<usize>,
@@ -65,7 +65,7 @@ impl Drop for Captures<'_> {
 impl<'t> Captures<'t> {
     ghost use Rattle.fancy_matches.specs.Regexes.{captures_text, numbers_in, shown_captures, span_of, text_of};
 
-    /// The number at this index; `usize::MAX` where there is none.
+    /// The number at this index; `usize::MAX` if there is none.
     fn number(&self, index: usize) -> usize
         ensures { result ≡ slice_index_or (numbers_in self.now) index usize_max }
     {
@@ -75,7 +75,7 @@ impl<'t> Captures<'t> {
         }
     }
 
-    /// The match.
+    /// The match itself, which is group 0.
     pub fn whole(&self) -> Match<'t>
         ensures span { span_of result ≡ first_pair (numbers_in self.now) }
         ensures within { text_of result ≡ captures_text self.now }
@@ -87,7 +87,8 @@ impl<'t> Captures<'t> {
         }
     }
 
-    /// The part that the group took, or none if it is not set or not there. Group 0 is the match.
+    /// What the group with this number captured. `None` if the group is not set, or if there is no such group. Group 0 is
+    /// the match.
     pub fn get(&self, group: usize) -> Option<Match<'t>>
         ensures found { option_map span_of result ≡ group_span (numbers_in self.now) group }
         ensures within { IfSome result (λ m. text_of m ≡ captures_text self.now) }
@@ -105,7 +106,11 @@ impl<'t> Captures<'t> {
         })
     }
 
-    /// The same groups once more. The only error is want of memory.
+    /// Makes a copy of the groups.
+    ///
+    /// # Errors
+    ///
+    /// `AllocError` if an allocation fails.
     pub fn try_clone(&self, alloc: Global) -> Result<Captures<'t>, AllocError>
         ensures { IfOk result (λ c. shown_captures c ≡ shown_captures self.now) }
     {

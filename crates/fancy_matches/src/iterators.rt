@@ -8,10 +8,10 @@ use crate::regexes::Regex;
 use crate::standing::Standing;
 use fancy_expr::error::Error;
 
-/// The matches of a text from left to right, each with its groups.
+/// The matches of a text from left to right, each with its groups; `Regex::captures_iter` makes it.
 ///
-/// The next search begins where the last match ended, and after an empty match one character further; there it is not
-/// continued. An empty match where the last match ended is left out. After an error there are no more.
+/// The next search begins where the last match ended, or one character further if that match was empty; then `\G` fails
+/// there. An empty match directly after another match is left out. After an error there are no more items.
 #[derive(Drop)]
 pub struct CaptureMatches<'r, 't> {
     pub(crate) regex: &'r mut Regex,
@@ -33,7 +33,8 @@ impl<'r, 't> Iterator for CaptureMatches<'r, 't> {
     }
 }
 
-/// The matches of a text from left to right, those of `CaptureMatches`, without their groups.
+/// The matches of a text from left to right, without their groups; `Regex::find_iter` makes it. They are the matches of
+/// `CaptureMatches`. After an error there are no more items.
 #[derive(Drop)]
 pub struct Matches<'r, 't> {
     pub(crate) regex: &'r mut Regex,

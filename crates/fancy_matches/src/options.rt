@@ -1,4 +1,4 @@
-//! How the searches of a regex are made.
+//! The options of the searches of a regex.
 
 ghost use Rattle.std.specs.Prelude.{◌≡◌};
 ghost use Rattle.fancy_steps.specs.Tasks.{options_of as run_options_of};
@@ -6,22 +6,22 @@ ghost use Rattle.fancy_matches.specs.Listing as list;
 
 use fancy_vm::vm::{RunOptions, SearchLimits};
 
-/// How the searches of a regex are made.
+/// The options of the searches of a regex.
 #[derive(Clone, Copy, Debug)]
 pub struct RegexOptions {
-    /// The options of all searches but where each begins, whether it is continued, and how often it may fall back to a
-    /// branch. Where `step_limit` is `u64::MAX` no limit of instructions was asked: that is 100,000,000, and eight more for
-    /// each byte of the text and for its end.
+    /// The options of all searches. Each search sets for itself where it begins, whether it is continued, and its limit of
+    /// backtracks. A `step_limit` of `u64::MAX` means that none is set: then it is 100,000,000, and eight more for each byte
+    /// of the text and for its end.
     pub run: RunOptions,
-    /// How often a search may fall back to a branch. None is 20,000,000 times, and once more for each byte of the text
-    /// and for its end: a start that fails is one such time, and a text has no more starts than that.
+    /// How often a search may backtrack to a branch. `None` is 20,000,000, and one more for each byte of the text and for
+    /// its end, since a start that fails is one backtrack.
     pub backtrack_limit: Option<usize>,
-    /// How much the delegates of a search may take together.
+    /// How many states the delegates of a search may visit together, and how many bytes they may keep.
     pub limits: SearchLimits,
 }
 
 impl RegexOptions {
-    /// How often a search of this text may fall back to a branch.
+    /// How often a search of this text may backtrack to a branch.
     fn backtracks_for(&self, text: &str) -> usize
         ensures { result ≡ list.backtracks_for self.now.backtrack_limit text.now }
     {
@@ -31,7 +31,7 @@ impl RegexOptions {
         }
     }
 
-    /// How many instructions a search of this text may make.
+    /// How many instructions a search of this text may execute.
     fn steps_for(&self, text: &str) -> u64
         ensures { result ≡ list.steps_for self.now.run.step_limit text.now }
     {
@@ -44,7 +44,7 @@ impl RegexOptions {
         }
     }
 
-    /// The options of the searches of this text, but where each begins and whether it is continued.
+    /// The options of the searches of this text; where each begins, and whether it is continued, is set later.
     pub fn for_text(&self, text: &str) -> RunOptions
         ensures { run_options_of result
             ≡ list.options_for

@@ -25,8 +25,14 @@ use fancy_vm::vm::{RunOptions, Scratch, SearchLimit, SearchLimits};
 use std::alloc::{AllocError, Global};
 use std::sync::Arc;
 
-/// A tree that is compiled once and searched for many times, with the memory that its searches use again. Several may
-/// share one program, each with memory of its own.
+/// A compiled tree, with the memory that its searches use again. Several regexes may share one program, each with memory of
+/// its own. Positions are in bytes of the text, from 0.
+///
+/// # Errors of a search
+///
+/// A search that exceeds a limit of backtracks, steps or branches returns `RuntimeError`. `Memory` is returned if an
+/// allocation fails, or if the search exceeds a limit of visits or of bytes, which `passed` then names. After an error the
+/// regex can be used again.
 pub struct Regex {
     alloc: Global,
     compiled: Arc<Compiled>,
@@ -51,15 +57,16 @@ impl Drop for Regex {
 impl Regex {
     ghost use Rattle.fancy_matches.specs.Regexes.{AreAllApart, Begins, FindsCaptures, FindsMatch, FindsWhether, GivesBy, GivesCaptures, GivesMatch, IsMadeBy, IsNoLimitWhereEasy, IsRegexOf, IsSame, Shows, StaysIn, StaysInStep, captures_iteration, compiled_of, matches_iteration, options_in, passed_in, standing_of};
 
-    /// Analyses and compiles the tree, which has passed `is_well_formed`. The options fit a text that is empty, so they
-    /// begin at 0; where a search begins, and whether it is continued, each search sets for itself.
+    /// Analyses and compiles the tree. The caller proves that it is well-formed (`is_well_formed`), and that the options fit
+    /// the empty text; so they begin at 0. Each search sets for itself where it begins, and whether it is continued.
     ///
-    /// How often a search may fall back to a branch is `backtrack_limit`, and the options do not say it. None is
-    /// 20,000,000 times, and once more for each start that the text may have, so that a search for an easy tree never
-    /// stops at it.
+    /// `backtrack_limit` is how often a search may backtrack to a branch, and the options do not say it. `None` is
+    /// 20,000,000, and one more for each start that the text may have, so a search for an easy tree never exceeds it.
     ///
-    /// A tree is refused as `Error::CompileError`, and as `Error::NestLimitExceeded` where it nests deeper than
-    /// `compilation.max_nesting` where it is written out. Want of memory is `Error::Memory`.
+    /// # Errors
+    ///
+    /// `CompileError` if the tree is refused. `NestLimitExceeded` if more nodes nest in one another, with calls written out,
+    /// than `compilation.max_nesting`. `Memory` if an allocation fails.
     pub fn new(
         alloc: Global,
         tree: &ExprTree,
@@ -95,8 +102,12 @@ impl Regex {
         })
     }
 
-    /// The same regex once more. Both share the program, and each has memory of its own for its searches, so that two
-    /// threads may take one each. The only error is want of memory.
+    /// Makes a copy of the regex, for another thread. Both share the program, and each has memory of its own for its
+    /// searches.
+    ///
+    /// # Errors
+    ///
+    /// `AllocError` if an allocation fails.
     pub fn try_clone(&self) -> Result<Regex, AllocError>
         ensures { IfOk result (IsSame self.now) }
     {
@@ -108,8 +119,8 @@ impl Regex {
         })
     }
 
-    /// Each later search may take so much, its delegates together, and there is no such limit before. A search that
-    /// passes one is `Error::Memory`, and `passed` tells which.
+    /// Sets how many states the delegates of each later search may visit together, and how many bytes they may keep. Before
+    /// this call there is no such limit. A search that exceeds one returns `Error::Memory`, and `passed` says which.
     pub fn limit(&mut self, limits: SearchLimits)
         ensures compiled { compiled_of self.new ≡ compiled_of self.old }
         ensures options { self.new.options ≡ record self.old.options { limits = limits } }
@@ -117,14 +128,14 @@ impl Regex {
         self.options.limits = limits;
     }
 
-    /// The limit of the delegates that the last search passed.
+    /// The limit of `limit` that the last search exceeded, or `None`.
     pub fn passed(&self) -> Option<SearchLimit>
         ensures { result ≡ passed_in self.now }
     {
         self.options.limits.passed_by(self.scratch.cost())
     }
 
-    /// The options of a search of the text from this place on.
+    /// The options of a search of the text from this position on.
     fn begun_at(&self, text: &str, pos: usize) -> RunOptions
         ensures { run_options_of result ≡ list.begun_at (options_in self.now text.now) pos }
     {
@@ -134,7 +145,7 @@ impl Regex {
         }
     }
 
-    /// What is told of the first match from this place on, a byte of the text.
+    /// What is reported of the first match from byte `pos` of the text on.
     fn found_from<'t, F: FromSearch<'t>>(
         &mut self,
         text: &'t str,
@@ -160,7 +171,11 @@ impl Regex {
         )
     }
 
-    /// The groups of the first match from this place on, a byte of the text.
+    /// Finds the first match from `pos` on, as `find_from` does, with its groups.
+    ///
+    /// # Errors
+    ///
+    /// Those of a search; see [`Regex`].
     pub fn captures_from<'t>(
         &mut self,
         text: &'t str,
@@ -178,7 +193,11 @@ impl Regex {
         self.found_from(text, pos)
     }
 
-    /// The groups of the first match.
+    /// Finds the first match, as `find` does, with its groups.
+    ///
+    /// # Errors
+    ///
+    /// Those of a search; see [`Regex`].
     pub fn captures<'t>(&mut self, text: &'t str) -> Result<Option<Captures<'t>>, Error>
         ensures promise { (i : Input)
             → (o : plain.RunOptions)
@@ -191,7 +210,13 @@ impl Regex {
         self.captures_from(text, 0)
     }
 
-    /// The first match from this place on, a byte of the text.
+    /// Finds the first match that starts at `pos` or later. Look-behind and `\b` see the text before `pos`.
+    ///
+    /// `pos` is in bytes: the start of a character of the text, or the length of the text. The caller proves this.
+    ///
+    /// # Errors
+    ///
+    /// Those of a search; see [`Regex`].
     pub fn find_from<'t>(&mut self, text: &'t str, pos: usize) -> Result<Option<Match<'t>>, Error>
         requires { IsTrue (places.is_place text.now pos) }
         ensures promise { (i : Input)
@@ -205,7 +230,12 @@ impl Regex {
         self.found_from(text, pos)
     }
 
-    /// The first match.
+    /// Finds the first match: the one with the earliest start, and of several there the first in the order of preference, or
+    /// the longest under `leftmost_longest`. `Ok(None)` means that there is no match.
+    ///
+    /// # Errors
+    ///
+    /// Those of a search; see [`Regex`].
     pub fn find<'t>(&mut self, text: &'t str) -> Result<Option<Match<'t>>, Error>
         ensures promise { (i : Input)
             → (o : plain.RunOptions)
@@ -218,7 +248,11 @@ impl Regex {
         self.find_from(text, 0)
     }
 
-    /// Whether there is a match.
+    /// Whether the text has a match.
+    ///
+    /// # Errors
+    ///
+    /// Those of a search; see [`Regex`].
     pub fn is_match(&mut self, text: &str) -> Result<bool, Error>
         ensures promise { (i : Input)
             → (o : plain.RunOptions)
@@ -234,8 +268,7 @@ impl Regex {
         }
     }
 
-    /// What is told of the next match of the list that stands so; the list then stands after it. After an error the list
-    /// has ended.
+    /// What is reported of the next match of a list; `standing` moves after it. After an error the list has ended.
     fn next_found<'t, F: FromSearch<'t>>(
         &mut self,
         text: &'t str,
@@ -273,8 +306,12 @@ impl Regex {
         }
     }
 
-    /// The next match of the list that stands so, with its groups; the list then stands after it. After an error the list
-    /// has ended.
+    /// Finds the next match of a list, with its groups, and moves `standing` after it. `None` means that the list has ended;
+    /// `Standing::first()` begins one.
+    ///
+    /// # Errors
+    ///
+    /// The item is an error of the search; see [`Regex`]. The list has ended then.
     pub fn next_captures<'t>(
         &mut self,
         text: &'t str,
@@ -295,8 +332,12 @@ impl Regex {
         self.next_found(text, standing)
     }
 
-    /// The next match of the list that stands so, without its groups; the list then stands after it. After an error the
-    /// list has ended.
+    /// Finds the next match of a list, without its groups, and moves `standing` after it. `None` means that the list has
+    /// ended; `Standing::first()` begins one.
+    ///
+    /// # Errors
+    ///
+    /// The item is an error of the search; see [`Regex`]. The list has ended then.
     pub fn next_match<'t>(
         &mut self,
         text: &'t str,
@@ -317,8 +358,12 @@ impl Regex {
         self.next_found(text, standing)
     }
 
-    /// All matches, one after the other, each with its groups. They do not overlap. The regex is the caller's again once
-    /// the iterator is gone.
+    /// All matches from left to right, each with its groups, as an iterator. Matches do not overlap. The iterator borrows
+    /// the regex.
+    ///
+    /// # Errors
+    ///
+    /// An item can be an error of the search; see [`Regex`]. No item follows it.
     pub fn captures_iter<'r, 't>(&'r mut self, text: &'t str) -> CaptureMatches<'r, 't>
         ensures begins { Begins self.entry text.now (captures_iteration result) }
         ensures apart { AreAllApart self.old text.now }
@@ -330,8 +375,12 @@ impl Regex {
         }
     }
 
-    /// All matches, one after the other, without their groups. They do not overlap. The regex is the caller's again once
-    /// the iterator is gone.
+    /// All matches from left to right, without their groups, as an iterator. Matches do not overlap, and an empty match
+    /// directly after another match is left out. The iterator borrows the regex.
+    ///
+    /// # Errors
+    ///
+    /// An item can be an error of the search; see [`Regex`]. No item follows it.
     pub fn find_iter<'r, 't>(&'r mut self, text: &'t str) -> Matches<'r, 't>
         ensures begins { Begins self.entry text.now (matches_iteration result) }
         ensures apart { AreAllApart self.old text.now }

@@ -19,7 +19,7 @@ use fancy_search::search::Compiled;
 use fancy_vm::vm::{RunOptions, Scratch, run_spans};
 use std::alloc::Global;
 
-/// What a search tells of a match: where it is, or all its groups.
+/// What a search reports of a match: where it is, or all its groups.
 pub trait FromSearch<'t>: Sized + Drop {
     // what is shown of one
     ghost Shown: { Type 0 };
@@ -32,7 +32,7 @@ pub trait FromSearch<'t>: Sized + Drop {
     // where the match is
     ghost span: { Self → Span };
 
-    /// What is told of the first match by these options.
+    /// What is reported of the first match by these options.
     fn search(
         alloc: Global,
         compiled: &Compiled,
@@ -121,8 +121,8 @@ impl<'t> FromSearch<'t> for Captures<'t> {
     }
 }
 
-/// What is told of the next match of the list that stands so, by these options but where each search begins and whether
-/// it is continued. The list then stands after that match; with an error, before the search that failed.
+/// What is reported of the next match of a list, by these options; where each search begins, and whether it is continued,
+/// `standing` says. It then moves after that match, or stays before the search that failed.
 pub fn next_found<'t, F: FromSearch<'t>>(
     alloc: Global,
     compiled: &Compiled,
@@ -160,7 +160,7 @@ pub fn next_found<'t, F: FromSearch<'t>>(
     Ok(None)
 }
 
-/// The next match of the list that stands so, without its groups, as `next_found` has it.
+/// The next match of a list, without its groups, as `next_found` finds it.
 pub fn next_match<'t>(
     alloc: Global,
     compiled: &Compiled,

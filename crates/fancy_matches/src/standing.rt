@@ -1,4 +1,4 @@
-//! Where a list of matches stands.
+//! How far a list of matches has come.
 
 ghost use Rattle.std.specs.Prelude.{◌≡◌, ◌≤◌, length};
 ghost use Rattle.fancy_steps.specs.Tasks.{options_of};
@@ -7,10 +7,10 @@ ghost use Rattle.fancy_matches.specs.Listing as list;
 use fancy_characters::places::past_any;
 use fancy_vm::vm::RunOptions;
 
-/// Where a list of matches stands.
+/// How far a list of matches has come. Positions are in bytes of the text.
 #[derive(Clone, Copy, Debug, Drop)]
 pub struct Standing {
-    /// Where the next search begins; no place of the text once the list has ended.
+    /// Where the next search begins; after the end of the text once the list has ended.
     pub pos: usize,
     /// Where the last match of the list ended.
     pub last: Option<usize>,
@@ -19,14 +19,15 @@ pub struct Standing {
 impl Standing {
     ghost use Rattle.fancy_matches.specs.Regexes.{standing_of};
 
-    /// Before the first match.
+    /// A list before its first match.
     pub fn first() -> Standing
         ensures { standing_of result ≡ list.at_start }
     {
         Standing { pos: 0, last: None }
     }
 
-    /// The options of the next search, which is continued where the last match ended, and so is the first.
+    /// The options of the next search. It is continued (`\G` holds) if it begins where the last match ended, or if it is the
+    /// first.
     pub fn options(&self, base: &RunOptions) -> RunOptions
         ensures { options_of result ≡ list.options_at (options_of base.now) (standing_of self.now) }
     {
@@ -41,15 +42,15 @@ impl Standing {
         }
     }
 
-    /// The list has ended: no place of a text is this far on.
+    /// Ends the list: no text is as long as this position.
     pub fn end(&mut self)
         ensures { standing_of self.new ≡ list.ended (standing_of self.old) }
     {
         self.pos = usize::MAX;
     }
 
-    /// Goes past a match that was found, and says whether it is one of the list: it does not begin before its search,
-    /// and is not empty where the last match ended.
+    /// Moves after a match that was found, and returns whether it belongs to the list: it does not begin before its search,
+    /// and it is not an empty match directly after the last one.
     pub fn pass(&mut self, text: &str, start: usize, end: usize) -> bool
         requires { end ≤ length text.now }
         ensures listed { result ≡ list.is_listed (standing_of self.old) (start, end) }
