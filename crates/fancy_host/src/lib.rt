@@ -43,13 +43,13 @@ use std::alloc::Global;
 use std::str::from_utf8;
 use writing::{write_over, write_text};
 
-/// The options of a search unless said otherwise: from the text's start, no flag, no limits of backtracks and instructions
-/// given, a program of at most 100,000 instructions, a tree of at most 250 levels, whose analysis looks at 5,000,000 nodes
-/// at most, and at most 500 nodes written out in one another, for which a stack of 2 MB was enough.
+/// The default options: a search from the start of the text, without a flag. Limits: 100,000 instructions of a program, 250
+/// levels of a tree, 5,000,000 nodes of the analysis, and 500 nodes that nest in one another with calls written out, for
+/// a stack of 1 MB.
 ///
-/// Where these limits are not given, a search may fall back to a branch 20,000,000 times and execute 100,000,000
-/// instructions, and once more, or eight more, for each byte of the text and for its end: a search for an easy tree never
-/// stops at them.
+/// The limits of backtracks and instructions are not set. Then a search may backtrack 20,000,000 times and execute
+/// 100,000,000 instructions, and one more, or eight more, for each byte of the text and for its end. A search for an easy
+/// tree never exceeds these.
 #[unsafe(no_mangle)]
 pub extern "C" fn fancy_default_options() -> FancyOptions
     ensures { result ≡ default_options }
@@ -57,7 +57,7 @@ pub extern "C" fn fancy_default_options() -> FancyOptions
     FancyOptions::default()
 }
 
-/// Writes the version of the library, and answers how many bytes it has.
+/// Writes the version of the library, and returns how many bytes it has.
 #[unsafe(no_mangle)]
 pub extern "C" fn fancy_version(version: &mut [u8]) -> usize
     ensures length { result ≡ length (codes "0.4.0") }
@@ -66,8 +66,8 @@ pub extern "C" fn fancy_version(version: &mut [u8]) -> usize
     write_text("0.4.0".as_bytes(), version)
 }
 
-/// Compiles a pattern. What the program held before is freed; it holds the pattern if the code is `FANCY_OK`, and nothing
-/// otherwise.
+/// Compiles a pattern, in UTF-8. What the program held before is freed. It holds the pattern if the code is `FANCY_OK`, and
+/// nothing otherwise; hosts/fancy.h lists the codes.
 #[unsafe(no_mangle)]
 pub extern "C" fn fancy_compile_pattern(
     alloc: Global,
@@ -85,10 +85,10 @@ pub extern "C" fn fancy_compile_pattern(
     }
 }
 
-/// Compiles the tree that a text in the notation spells. What the program held before is freed; it holds the tree if the
-/// code is `FANCY_OK`, and nothing otherwise. A tree that nests deeper than `max_depth` is refused before it is read. One
-/// whose analysis exceeds `analysis_limit` is refused before it is analysed, and one
-/// whose nodes are written out in one another deeper than `max_nesting` while it is compiled.
+/// Compiles the tree that a text in the notation spells. What the program held before is freed. It holds the tree if the
+/// code is `FANCY_OK`, and nothing otherwise. A tree that nests deeper than `max_depth` is refused before it is read, and
+/// one whose analysis exceeds `analysis_limit` before it is analysed. One with more nodes in one another than `max_nesting`,
+/// with calls written out, is refused while it is compiled.
 #[unsafe(no_mangle)]
 pub extern "C" fn fancy_compile(
     alloc: Global,
@@ -106,9 +106,8 @@ pub extern "C" fn fancy_compile(
     }
 }
 
-/// Makes a program that holds what another holds, for a thread of its own: both share what was compiled, and each has
-/// memory of its own for its searches. What the copy held before is freed; it holds the same if the code is `FANCY_OK`,
-/// and nothing otherwise.
+/// Makes a copy of a program, for another thread. Both share what was compiled, and each has memory of its own for its
+/// searches. What the copy held before is freed. It holds the same if the code is `FANCY_OK`, and nothing otherwise.
 #[unsafe(no_mangle)]
 pub extern "C" fn fancy_clone(
     alloc: Global,
@@ -132,7 +131,7 @@ pub extern "C" fn fancy_clone(
     }
 }
 
-/// Whether the tree that a program holds has a match in a text, in UTF-8: `FANCY_OK` or `FANCY_NO_MATCH`.
+/// Whether a text, in UTF-8, has a match of what the program holds: the code is `FANCY_OK` or `FANCY_NO_MATCH`.
 #[unsafe(no_mangle)]
 pub extern "C" fn fancy_is_match(
     alloc: Global,
@@ -161,8 +160,8 @@ pub extern "C" fn fancy_is_match(
     outcome
 }
 
-/// Searches a text, in UTF-8, for the tree that a program holds, and writes start and end of each group from 0 up, in
-/// bytes of the text, as far as there is room in `spans`; `FANCY_UNSET` is for a group that is not set.
+/// Finds the first match in a text, in UTF-8. Writes start and end of each group from 0 up, in bytes of the text, as far as
+/// there is room in `spans`, and `FANCY_UNSET` twice for a group that is not set.
 #[unsafe(no_mangle)]
 pub extern "C" fn fancy_find(
     alloc: Global,
@@ -194,11 +193,10 @@ pub extern "C" fn fancy_find(
     outcome
 }
 
-/// Searches a text, in UTF-8, for all matches of the tree that a program holds, from where their list stands: writes
-/// start and end of each, in bytes of the text, as many as there is room for in `spans`, and says how many. The list
-/// then stands after them, so a call again goes on. The code is `FANCY_OK` where there was no room for one more, and
-/// `FANCY_NO_MATCH` where the list has ended; after an error the list stands before the search that failed. `pos` and
-/// `not_continued` of the options say nothing here.
+/// Finds the next matches of a list in a text, in UTF-8. Writes start and end of each, in bytes of the text, while there is
+/// room in `spans`, and says how many. `standing` moves after them, so the same call again goes on. The code is `FANCY_OK`
+/// if there was no room for one more, and `FANCY_NO_MATCH` if the list has ended. After an error `standing` is before the
+/// search that failed. `pos` and `not_continued` of the options have no effect.
 #[unsafe(no_mangle)]
 pub extern "C" fn fancy_find_all(
     alloc: Global,
@@ -234,8 +232,8 @@ pub extern "C" fn fancy_find_all(
     outcome
 }
 
-/// As `fancy_find_all`, but writes start and end of each group from 0 up for each match, `FANCY_UNSET` twice for a group
-/// that is not set: for each match twice as many numbers as there are groups.
+/// As `fancy_find_all`, but writes start and end of each group from 0 up for each match, and `FANCY_UNSET` twice for a group
+/// that is not set. A match has two numbers for each group.
 #[unsafe(no_mangle)]
 pub extern "C" fn fancy_captures_all(
     alloc: Global,
@@ -271,10 +269,10 @@ pub extern "C" fn fancy_captures_all(
     outcome
 }
 
-/// Writes a text, in UTF-8, with its first `limit` matches replaced, all of them where that is 0: by a text as it stands,
-/// or by what it says as a template, as `Template` reads it. As much of the new text is written as there is room for, with
-/// a zero at its end, and how many bytes it has is said. The code is `FANCY_OK` where all of it was written, and
-/// `FANCY_NO_ROOM` where not. Where the code is another, nothing is written. `pos` and `not_continued` of the options say nothing here.
+/// Writes a text, in UTF-8, with its first `limit` matches replaced, all of them if `limit` is 0. The replacement is written
+/// as it is, or as a template, which `Template` reads. The new text is written as far as there is room, with a zero at its
+/// end, and its length in bytes is said. The code is `FANCY_OK` if all of it was written, and `FANCY_NO_ROOM` if not. After
+/// another code nothing is written. `pos` and `not_continued` of the options have no effect.
 #[unsafe(no_mangle)]
 pub extern "C" fn fancy_replace(
     alloc: Global,
@@ -316,7 +314,7 @@ pub extern "C" fn fancy_replace(
     outcome
 }
 
-/// How many groups the tree that a program holds has, with group 0; none without a tree.
+/// How many groups a program has, with group 0; 0 if it holds nothing.
 #[unsafe(no_mangle)]
 pub extern "C" fn fancy_group_count(program: &FancyProgram) -> usize
     ensures { result ≡ group_count (tree_of program.now.handle.searcher) }
@@ -324,7 +322,7 @@ pub extern "C" fn fancy_group_count(program: &FancyProgram) -> usize
     program.groups
 }
 
-/// Writes the name of a group, and answers how many bytes it has; none where it has no name, or is not there.
+/// Writes the name of a group, and returns how many bytes it has: 0 if the group has no name or is not there.
 #[unsafe(no_mangle)]
 pub extern "C" fn fancy_group_name(
     alloc: Global,
@@ -346,7 +344,7 @@ pub extern "C" fn fancy_group_name(
     length
 }
 
-/// Writes the numbers of the groups with this name, in the order in which they open, as far as there is room, and answers
+/// Writes the numbers of the groups with this name, in the order in which they open, as far as there is room, and returns
 /// how many there are.
 #[unsafe(no_mangle)]
 pub extern "C" fn fancy_groups_named(
@@ -373,7 +371,7 @@ pub extern "C" fn fancy_groups_named(
     count
 }
 
-/// Writes the name of a code, and answers how many bytes it has; none where no code is this number.
+/// Writes the name of a code, and returns how many bytes it has: 0 if no code is this number.
 #[unsafe(no_mangle)]
 pub extern "C" fn fancy_error_name(code: u32, name: &mut [u8]) -> usize
     ensures length { result ≡ length (name_of code) }
@@ -382,7 +380,7 @@ pub extern "C" fn fancy_error_name(code: u32, name: &mut [u8]) -> usize
     write_name(code, name)
 }
 
-/// Writes what an outcome says as a sentence for a reader, and answers how many bytes it has.
+/// Writes an outcome as a sentence for a reader, and returns how many bytes it has.
 #[unsafe(no_mangle)]
 pub extern "C" fn fancy_error_message(
     alloc: Global,
@@ -394,8 +392,8 @@ pub extern "C" fn fancy_error_message(
     write_message(alloc, outcome, message)
 }
 
-/// Compiles a pattern, and writes why it has no program, as a sentence for a reader, with the text of what is refused; an
-/// empty text where it has one.
+/// Compiles a pattern, and writes why it has no program, as a sentence for a reader, with what is refused. If it has a
+/// program, the text is empty.
 #[unsafe(no_mangle)]
 pub extern "C" fn fancy_explain_pattern(
     alloc: Global,

@@ -31,32 +31,32 @@ pub struct Reserved {
 pub struct FancyOptions {
     /// How many bytes the host's struct has.
     pub size: usize,
-    /// Where the search begins, a byte of the text.
+    /// The byte of the text where the search begins.
     pub pos: usize,
     /// How many instructions a program may have.
     pub max_prog_size: usize,
-    /// How many nodes may be written out in one another, calls with them: said to the compiler, which refuses more as
+    /// How many nodes may nest in one another, with calls written out; for the compiler, which refuses more as
     /// `FANCY_NEST_LIMIT_EXCEEDED`.
     pub max_nesting: usize,
     /// How deep a tree may nest, in parentheses: what the stack of the calling thread allows.
     pub max_depth: usize,
-    /// How often a search may fall back to a branch; `usize::MAX` where the host gives no limit.
+    /// How often a search may backtrack to a branch; `usize::MAX` if the host sets no limit.
     pub backtrack_limit: usize,
-    /// How many instructions a search may execute; `u64::MAX` where the host gives no limit.
+    /// How many instructions a search may execute; `u64::MAX` if the host sets no limit.
     pub step_limit: u64,
-    /// Only the first start is tried: said to the compiler.
+    /// Only the first start is tried; for the compiler.
     pub compile_anchored: bool,
-    /// Only the first start is tried: said to the search.
+    /// Only the first start is tried; for the search.
     pub anchored: bool,
     /// No match ended at `pos`.
     pub not_continued: bool,
-    /// A match has to take something: said to both.
+    /// A match is not empty; for both.
     pub not_empty: bool,
-    /// No match that takes nothing at the end of the text, after a newline: said to the compiler.
+    /// No empty match at the end of a text after a newline; for the compiler.
     pub end_text: bool,
-    /// Folding, word characters and classes go by ASCII: said to the compiler.
+    /// Folding, word characters and classes are those of ASCII; for the compiler.
     pub ascii: bool,
-    /// Of the matches at the earliest start the longest one, in bytes, and not the first: said to both.
+    /// The longest match, in bytes, at the earliest start, and not the first one; for both.
     pub longest: bool,
     /// How a pattern is read, from here on; each as the field of `ParseOptions`.
     pub case_insensitive: bool,
@@ -66,13 +66,13 @@ pub struct FancyOptions {
     pub crlf: bool,
     pub swap_greed: bool,
     pub oniguruma: bool,
-    /// Where a group has a name, a plain `( )` captures nothing.
+    /// If the pattern has a named group, a plain `( )` captures nothing.
     pub named_groups_only: bool,
     /// The host answers for each text that is searched: it is UTF-8, and is not checked.
     pub text_is_utf8: bool,
-    /// How many states the delegates of a search may take up together; 0 is no limit.
+    /// How many states the delegates of a search may visit together; 0 is no limit.
     pub visit_limit: u64,
-    /// How many bytes what they keep may hold at one time, and as many the branches of the search; 0 is no limit.
+    /// How many bytes they may keep at one time, and again the branches of the search; 0 is no limit.
     pub memory_limit: usize,
     /// How many nodes the analysis of a tree may look at in rounds that change something. More is refused as
     /// `FANCY_ANALYSIS_LIMIT_EXCEEDED`; 0 is no limit.
