@@ -5,7 +5,10 @@
     {'number': '42'}
 
 The syntax is that of fancy-regex: `(?~ )`, `\\g<name>`, `(?>..)`, `\\K`, `\\p{Greek}` and nested classes are there. Offsets are
-in characters. README.md says what differs from `re`.
+in characters, from 0. README.md says what differs from `re`.
+
+A pattern that cannot be read, or is refused, raises `error`. A search that exceeds a limit raises `LimitError`, which is an
+`error` too. Out of memory is `MemoryError`. A lone surrogate in a pattern or a string is a `UnicodeEncodeError`.
 """
 
 from __future__ import annotations
@@ -45,19 +48,30 @@ def _kept(pattern: str, flags: int) -> Pattern:
 
 
 def compile(pattern: AnyPattern, flags: int = 0, **options: Any) -> Pattern:
-    """The pattern, compiled. Of the flags A, I, M, S, U and X are known.
+    """Compiles a pattern. The flags are A, I, M, S, U and X. A `Pattern` is returned as it is.
 
-    Options: backtrack_limit (how often a search may fall back to a branch; 20,000,000, and one more for each byte of the text
-    and its end), step_limit (how many instructions it may execute; 100,000,000, and eight more for each), visit_limit (how
-    many states it may visit in the parts that an automaton searches for; 20,000,000, some 3 s at worst, and 0 is no limit),
-    memory_limit (how many bytes it may keep there, or to fall back; 256 MiB, and 0 is no limit), max_prog_size (how many
-    instructions the program of a pattern may have), max_nesting (how many nodes may be written out in one another),
-    analysis_limit (how many nodes the analysis may look at in rounds that change something; 5,000,000, and 0 is no limit),
-    find_not_empty (a match has to take something), leftmost_longest (the longest match at the earliest start is found, and
-    not the first), and crlf, swap_greed, oniguruma and ignore_numbered_groups_when_named_groups_exist, as RegexBuilder of
-    fancy-regex has them.
+    Limits of a search, as options by name:
 
-    A pattern that cannot be read, or is refused, is an `error`.
+        backtrack_limit  how often it may backtrack to a branch; 20,000,000, and one more for each byte of the text and its end
+        step_limit       how many instructions it may execute; 100,000,000, and eight more for each byte and the end
+        visit_limit      how many states it may visit in parts that an automaton searches; 20,000,000, some 3 s at worst
+        memory_limit     how many bytes it may keep there, and again for its branches; 268,435,456 (256 MiB)
+
+    Limits of a pattern:
+
+        max_prog_size    how many instructions its program may have; 100,000
+        max_nesting      how many nodes may nest in one another, with calls written out; 500, for a stack of 1 MB
+        analysis_limit   how many nodes the analysis may look at in rounds that change something; 5,000,000
+
+    0 is no limit for visit_limit, memory_limit and analysis_limit. Options that are true or false, and false by default:
+    find_not_empty (a match is not empty), leftmost_longest (the longest match at the earliest start, not the first one), and
+    crlf, swap_greed, oniguruma and ignore_numbered_groups_when_named_groups_exist, as RegexBuilder of fancy-regex has them.
+
+    Raises `error`, with `pos`, if the pattern cannot be read or is refused, and ValueError for unknown flags.
+
+        >>> import fancy
+        >>> fancy.compile("[a-z]+", fancy.I, step_limit=1_000_000).search("7 Apples").span()
+        (2, 8)
     """
     if isinstance(pattern, Pattern):
         if flags or options:
@@ -75,42 +89,42 @@ def compile(pattern: AnyPattern, flags: int = 0, **options: Any) -> Pattern:
 
 
 def search(pattern: AnyPattern, string: str, flags: int = 0) -> Optional[Match]:
-    """The first match."""
+    """The first match of the pattern in the string, or None. See `Pattern.search`."""
     return compile(pattern, flags).search(string)
 
 
 def match(pattern: AnyPattern, string: str, flags: int = 0) -> Optional[Match]:
-    """The match at the start of the string."""
+    """The match at the start of the string, or None. See `Pattern.match`."""
     return compile(pattern, flags).match(string)
 
 
 def fullmatch(pattern: AnyPattern, string: str, flags: int = 0) -> Optional[Match]:
-    """The match of the whole string."""
+    """The match of the whole string, or None. See `Pattern.fullmatch`."""
     return compile(pattern, flags).fullmatch(string)
 
 
 def finditer(pattern: AnyPattern, string: str, flags: int = 0) -> Iterator[Match]:
-    """Every match, from left to right."""
+    """An iterator over the matches, from left to right. See `Pattern.finditer`."""
     return compile(pattern, flags).finditer(string)
 
 
 def findall(pattern: AnyPattern, string: str, flags: int = 0) -> List[Any]:
-    """The texts of every match, or of its groups."""
+    """The texts of all matches, or of their groups, as a list. See `Pattern.findall`."""
     return compile(pattern, flags).findall(string)
 
 
 def split(pattern: AnyPattern, string: str, maxsplit: int = 0, flags: int = 0) -> List[Optional[str]]:
-    """What stands between the matches."""
+    """The pieces of the string between the matches, as a list. See `Pattern.split`."""
     return compile(pattern, flags).split(string, maxsplit)
 
 
 def sub(pattern: AnyPattern, repl: Replacement, string: str, count: int = 0, flags: int = 0) -> str:
-    """The string with matches replaced."""
+    """The string with its matches replaced. See `Pattern.sub`."""
     return compile(pattern, flags).sub(repl, string, count)
 
 
 def subn(pattern: AnyPattern, repl: Replacement, string: str, count: int = 0, flags: int = 0) -> Tuple[str, int]:
-    """The string with matches replaced, and how many were."""
+    """The string with its matches replaced, and how many were. See `Pattern.subn`."""
     return compile(pattern, flags).subn(repl, string, count)
 
 
@@ -118,13 +132,18 @@ _SPECIAL = {ord(letter): "\\" + letter for letter in "()[]{}?*+-|^$\\.&~# \t\n\r
 
 
 def escape(pattern: str) -> str:
-    """The pattern that spells a text, whatever flags hold: what `re.escape` answers."""
+    """The pattern that matches a text as it is, under all flags: what `re.escape` returns.
+
+        >>> import fancy
+        >>> print(fancy.escape("1+1"))
+        1\\+1
+    """
     if not isinstance(pattern, str):
         raise TypeError(f"a pattern is a string, not {type(pattern).__name__!r}")
     return plain(pattern).translate(_SPECIAL)
 
 
 def purge() -> None:
-    """Forgets the patterns that `compile` kept, and the texts of the last searches."""
+    """Forgets the patterns that `compile` kept, and the strings of the last searches."""
     _kept.cache_clear()
     forget_texts()

@@ -1,4 +1,4 @@
-"""Why there is no answer."""
+"""Why there is no result."""
 
 from __future__ import annotations
 
@@ -6,11 +6,11 @@ from typing import Optional
 
 
 class error(Exception):
-    """A pattern or a template that cannot be read, or a search that passed a limit.
+    """A pattern that cannot be read or is refused, a template that cannot be read, or a search that exceeds a limit.
 
     msg      what is wrong
     pattern  the pattern or the template
-    pos      the character where it is wrong; None where it is no one place
+    pos      the character where it is wrong, from 0; None if there is no one place
     lineno, colno  its line and column, from 1; None as pos
     name     the name of the error in the engine, as 'InvalidEscape'; None for a template
     """
@@ -40,7 +40,7 @@ class error(Exception):
 
 
 class LimitError(error):
-    """A search that passed a limit: of backtracks, of steps, of the branches that are held, of visits, or of memory. Its name
-    says which: 'VisitLimitExceeded', say."""
+    """A search that exceeds a limit: of backtracks, of steps, of the branches that are held, of visits, or of memory. Its
+    name says which, such as 'VisitLimitExceeded'."""
 
     __module__ = "fancy"

@@ -216,7 +216,7 @@ class Options:
         return Options(self.given, {**self._fields, **fields})
 
     def nesting_deeper(self, levels: int) -> "Options":
-        """The same, where so many more nodes may be written out in one another."""
+        """The same options, which allow this many nodes more in one another."""
         most = self._fields.get("max_nesting", _library.fancy_default_options().max_nesting)
         return self.with_(max_nesting=min(most + levels, UNSET))
 
@@ -352,7 +352,7 @@ class Program:
     def find_all(
         self, text: bytes, length: int, standing: Standing, room: int, with_groups: bool
     ) -> Tuple[List[List[int]], Optional[Exception], bool]:
-        """Start and end of the next matches, at most so many, in bytes, or of each of their groups; why there is no more, if
+        """Start and end of the next matches, at most `room`, in bytes, or of each of their groups; why there is no more, if
         that is an error; and whether there may be more."""
         handle = self._take()
         call, width = (_library.fancy_captures_all, 2 * self.groups) if with_groups else (_library.fancy_find_all, 2)
@@ -392,8 +392,8 @@ class Patterns:
     def scan(
         self, text: bytes, length: int, pos: int, groups: int, room: int
     ) -> Tuple[List[List[int]], int, int, Optional[Exception], bool]:
-        """The rows of the next matches, at most so many, each with so many groups, and where the scan then stands; the
-        pattern that passed a limit, where that is why there is no more; why there is no more, if that is an error; and
+        """The rows of the next matches, at most `room`, each with `groups` groups, and where the scan goes on; the
+        pattern that exceeded a limit, if that is why there is no more; why there is no more, if that is an error; and
         whether there may be more."""
         width = ROW_SPANS + 2 * groups
         rows = (c_size_t * (width * room))()

@@ -1,4 +1,4 @@
-"""Patterns that were compiled, and what they find."""
+"""Compiled patterns, and their matches."""
 
 from __future__ import annotations
 
@@ -23,7 +23,16 @@ _MOST_ROOM = 1 << 17
 
 
 class Match:
-    """A match: where it and its groups lie in the string, in characters."""
+    """A match, with its groups. Positions are in characters of the string, from 0.
+
+    re           the pattern
+    string       the string
+    pos, endpos  the range that was searched
+    regs         start and end of each group from 0 on; (-1, -1) if a group is not set
+
+    A group is named by its number or its name. IndexError says that there is no such group. Of several groups with one name,
+    the first that is set is meant.
+    """
 
     __module__ = "fancy"
     __slots__ = ("re", "string", "pos", "endpos", "regs", "_text")
@@ -59,33 +68,47 @@ class Match:
         return self._text_of(self._number(group))
 
     def group(self, *groups: Group) -> Any:
-        """The text of a group, 0 for the whole match; of several, a tuple."""
+        """The text of a group, or None if it is not set; a tuple of several. Group 0, the default, is the match.
+
+            >>> import fancy
+            >>> fancy.search(r"(?<year>\\d+)-(\\d+)", "on 2026-11").group("year", 2)
+            ('2026', '11')
+        """
         if len(groups) == 1:
             return self[groups[0]]
         return tuple(map(self.__getitem__, groups)) if groups else self[0]
 
     def groups(self, default: Any = None) -> Tuple[Any, ...]:
+        """The texts of all groups from 1 on, with the default for a group that is not set."""
         return tuple(self._text_of(number, default) for number in range(1, len(self.regs)))
 
     def groupdict(self, default: Any = None) -> Dict[str, Any]:
+        """The text of each name, with the default for a group that is not set."""
         return {name: self._text_of(self._number(name), default) for name in self.re.groupindex}
 
     def start(self, group: Group = 0) -> int:
+        """Where a group begins; -1 if it is not set."""
         return self.span(group)[0]
 
     def end(self, group: Group = 0) -> int:
+        """Where a group ends; -1 if it is not set."""
         return self.span(group)[1]
 
     def span(self, group: Group = 0) -> Tuple[int, int]:
+        """Start and end of a group; (-1, -1) if it is not set."""
         return self.regs[self._number(group)]
 
     def expand(self, template: str) -> str:
+        """The template with each reference to a group (`\\1`, `\\g<name>`) replaced by what the group captured.
+
+        Raises `error` if the template cannot be read.
+        """
         return self.re._template(template).expand(self)
 
     @property
     def lastindex(self) -> Optional[int]:
-        """The group that closed last; None if none is set. It is the last one in the pattern, of those in one loop the one that
-        ends last in the text, and of those in one another the outer one."""
+        """The number of the group that closed last; None if none is set. It is the last one in the pattern, of those in one
+        loop the one that ends last in the text, and of those in one another the outer one."""
         closings = self.re._reading().closings(self.re.groups)
         numbers = [number for number in range(1, len(self.regs)) if self.regs[number][0] >= 0]
         if not numbers:
@@ -95,6 +118,7 @@ class Match:
 
     @property
     def lastgroup(self) -> Optional[str]:
+        """The name of the group `lastindex`, or None."""
         last = self.lastindex
         return next((name for name, numbers in self.re._numbers.items() if last in numbers), None)
 
@@ -112,7 +136,16 @@ class Match:
 
 
 class Pattern:
-    """A pattern that was compiled. Several threads may search with one."""
+    """A compiled pattern; `compile` makes it. Several threads may search with one at the same time.
+
+    pattern     the pattern, as a string
+    flags       the flags
+    groups      how many groups it has, without group 0
+    groupindex  the number of the first group with each name
+
+    Each search takes `pos` and `endpos`, in characters. The text before pos is there for look-behind, `\\b` and `^`; what
+    follows endpos is not. A search that exceeds a limit raises `LimitError`, and out of memory is `MemoryError`.
+    """
 
     __module__ = "fancy"
     __slots__ = (
@@ -131,7 +164,7 @@ class Pattern:
         self._templates: Dict[str, Template] = {}
         self._read: Optional[Reading] = None
 
-    # ---- What is made when it is first asked for
+    # ---- What is made when it is first needed
 
     def _program(self, way: str) -> Program:
         """The program for a way to search: `search` or `full`."""
@@ -140,7 +173,7 @@ class Pattern:
         return self._programs[way]
 
     def _whole(self) -> Program:
-        """The program of the pattern that ends where the text does."""
+        """The program of the pattern whose matches end where the text does."""
         if self._reading().calls_whole:
             # what is called has to be the pattern as it is: its longest match ends where the text does, if one does
             return Program(self.pattern, self._options.with_(longest=True))
@@ -166,17 +199,22 @@ class Pattern:
     # ---- One match
 
     def search(self, string: str, pos: int = 0, endpos: int = sys.maxsize) -> Optional[Match]:
-        """The first match that begins at pos or later."""
+        """The first match that begins at pos or later, or None.
+
+            >>> import fancy
+            >>> fancy.compile("[a-z]+").search("7 apples", 3).span()
+            (3, 8)
+        """
         return _Range(self, string, pos, endpos).find("search", is_anchored=False)
 
     def match(self, string: str, pos: int = 0, endpos: int = sys.maxsize) -> Optional[Match]:
-        """The match that begins at pos."""
+        """The match that begins at pos, or None."""
         return _Range(self, string, pos, endpos).find("search", is_anchored=True)
 
     def fullmatch(self, string: str, pos: int = 0, endpos: int = sys.maxsize) -> Optional[Match]:
-        """The match that begins at pos and ends at endpos.
+        """The match that begins at pos and ends at endpos, or None.
 
-        A pattern that calls itself as a whole, as by `\\g<0>`, and has a lazy loop is an `error` here.
+        Raises `error` if the pattern calls itself as a whole, as by `\\g<0>`, and has a lazy loop.
         """
         part = _Range(self, string, pos, endpos)
         match = part.find("full", is_anchored=True)
@@ -185,11 +223,18 @@ class Pattern:
     # ---- All matches
 
     def finditer(self, string: str, pos: int = 0, endpos: int = sys.maxsize) -> Iterator[Match]:
-        """Every match, from left to right. An empty match may stand where the last match ended."""
+        """An iterator over the matches, from left to right. Matches do not overlap, and an empty match directly after another
+        match is left out.
+
+            >>> import fancy
+            >>> [match.span() for match in fancy.compile("[0-9]+").finditer("1, 20 and 3")]
+            [(0, 1), (3, 5), (10, 11)]
+        """
         return _Range(self, string, pos, endpos).matches()
 
     def findall(self, string: str, pos: int = 0, endpos: int = sys.maxsize) -> List[Any]:
-        """The texts of every match: of its group where there is one, and a tuple of them where there are more."""
+        """The texts of all matches. If the pattern has one group, they are the texts of that group; if it has more, tuples of
+        the texts of the groups, with "" for a group that is not set."""
         matches = self.finditer(string, pos, endpos)
         if self.groups == 0:
             return [match[0] for match in matches]
@@ -198,7 +243,13 @@ class Pattern:
         return [match.groups("") for match in matches]
 
     def split(self, string: str, maxsplit: int = 0) -> List[Optional[str]]:
-        """What stands between the matches, and between two of them the groups of the match."""
+        """The pieces of the string between the matches, and between two of them the groups of the match. At most maxsplit
+        matches split the string, and all do if it is 0.
+
+            >>> import fancy
+            >>> fancy.compile(r",\\s*").split("one, two,three")
+            ['one', 'two', 'three']
+        """
         pieces: List[Optional[str]] = []
         part, end = _Range(self, string), 0
         string = part.text.string
@@ -210,11 +261,19 @@ class Pattern:
         return pieces
 
     def sub(self, repl: Replacement, string: str, count: int = 0) -> str:
-        """The string with each match replaced, or with the first matches, as many as count says where it is not 0."""
+        """The string with its matches replaced: the first `count` of them, or all if count is 0.
+
+        repl is a template, in which `\\1`, `\\g<1>` and `\\g<name>` are groups, or a function that returns the new text of a
+        match. If the function returns None, the match is removed. Raises `error` if the template cannot be read.
+
+            >>> import fancy
+            >>> fancy.compile(r"(\\w+) (\\w+)").sub(r"\\2 \\1", "hello world")
+            'world hello'
+        """
         return self.subn(repl, string, count)[0]
 
     def subn(self, repl: Replacement, string: str, count: int = 0) -> Tuple[str, int]:
-        """The same, and how many matches were replaced."""
+        """What `sub` returns, and how many matches were replaced."""
         template = None if callable(repl) else self._template(repl)
         expand = template.expand if template else repl
         with_groups = template is None or template.asks_for_groups()
@@ -282,16 +341,16 @@ class _Range:
         return Match(self.pattern, self.string, self.text, self.pos, self.endpos, spans)
 
     def matches(self, limit: int = 0, with_groups: bool = True) -> Iterator[Match]:
-        """Every match of the list, or the first of them, as many as the limit says where it is not 0; with the groups of
-        each, or with group 0 alone."""
+        """Every match of the list, or the first `limit` of them if it is not 0, with the groups of each or with group 0
+        alone."""
         if self.pos > self.endpos or limit < 0:
             return iter(())
         found = self.spans(limit or sys.maxsize, with_groups and self.pattern.groups > 0)
         return islice(map(self.match_of, found), limit or None)
 
     def spans(self, limit: int, with_groups: bool) -> Iterator[List[int]]:
-        """Start and end of each match, or of each group of each match. Each call asks for twice as many matches as the one
-        before, so that there are few calls."""
+        """Start and end of each match, or of each group of each match. Each call has room for twice as many matches as the
+        one before, so there are few calls."""
         program = self.pattern._program("search")
         standing = Standing(self.text.byte_of(self.pos), 0, False)
         most = max(1, _MOST_ROOM // (2 * program.groups if with_groups else 2))

@@ -12,7 +12,7 @@ _WHOLE = re.compile(r"\(\?[+-]?0+\)")
 
 
 class _Open(NamedTuple):
-    """A parenthesis that is open: its group, 0 if it captures nothing, whether blanks are left out behind it, and how many
+    """A parenthesis that is open: its group, 0 if it captures nothing, whether blanks are left out after it, and how many
     parentheses closed before it opened."""
 
     group: int
@@ -160,7 +160,7 @@ class Reading:
         self._closed.append((closed.group, closed.closed, self._is_repeated()))
 
     def _is_repeated(self) -> bool:
-        """Whether a quantifier stands here that asks for more than one."""
+        """Whether a quantifier for more than one is here."""
         self._skip_blanks()
         if self._begins("*", "+"):
             return True

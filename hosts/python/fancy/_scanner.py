@@ -18,9 +18,9 @@ _MOST_ROOM = 1 << 17
 class Found(NamedTuple):
     """A match of a scanner.
 
-    index    of which pattern it is
+    index    the index of its pattern
     match    the match
-    stopped  the first pattern that passed a limit, by its index, or None: it may have a match that begins before this one
+    stopped  the index of the first pattern whose search exceeded a limit, or None: it may have a match that begins before this
     """
 
     index: int
@@ -29,8 +29,14 @@ class Found(NamedTuple):
 
 
 class Scanner:
-    """Patterns that are searched for together: of several the match that begins first, and of several that begin there that
-    of the first pattern. One thread at a time searches with it; others wait."""
+    """Compiled patterns that are searched for together. Of their first matches the one that begins first is found, and of
+    several that begin there that of the first pattern. One thread at a time searches with a scanner; others wait.
+
+        >>> import fancy
+        >>> words = fancy.Scanner([fancy.compile('"[^"]*"'), fancy.compile("[a-z]+")])
+        >>> [(found.index, found.match[0]) for found in words.scan('1 "ab" cd')]
+        [(0, '"ab"'), (1, 'cd')]
+    """
 
     __module__ = "fancy"
     __slots__ = ("patterns", "_patterns", "_groups", "_lock", "__weakref__")
@@ -46,20 +52,20 @@ class Scanner:
         self._lock = Lock()
 
     def search(self, string: str, pos: int = 0, endpos: int = sys.maxsize) -> Optional[Found]:
-        """The first match that begins at pos or later. A LimitError says that a pattern passed a limit, and no other has a
-        match."""
+        """The first match that begins at pos or later, or None. Raises `LimitError` if a pattern exceeded a limit and no other
+        has a match."""
         return next(self._found(string, pos, endpos, 1), None)
 
     def scan(self, string: str, pos: int = 0, endpos: int = sys.maxsize) -> Iterator[Found]:
-        """Every match, from left to right: each search begins where the match before ended, or one character further where
-        that took nothing. What is found of a pattern is kept as long as it holds."""
+        """An iterator over the matches, from left to right. Each search begins where the match before it ended, or one
+        character further if that match was empty. Raises as `search` does."""
         return self._found(string, pos, endpos, _MOST_ROOM // self._width())
 
     def _width(self) -> int:
         return ROW_SPANS + 2 * self._groups
 
     def _found(self, string: str, pos: int, endpos: int, most: int) -> Iterator[Found]:
-        """Each call asks for twice as many matches as the one before, since each searches for each pattern once more."""
+        """Each call has room for twice as many matches as the one before, since each searches for each pattern once more."""
         text = text_of(string)
         pos, endpos = text.clipped(pos), text.clipped(endpos)
         if pos > endpos:

@@ -22,7 +22,7 @@ class Template:
         reader.read()
 
     def asks_for_groups(self) -> bool:
-        """Whether it writes what another group than 0 took."""
+        """Whether it writes what another group than 0 captured."""
         return any(part != (0,) for part in self.parts if not isinstance(part, str))
 
     def expand(self, match) -> str:
@@ -55,7 +55,7 @@ class _Reader:
         raise error(message, self.text, at)
 
     def digits(self, allowed: frozenset, most: int) -> str:
-        """The next characters that are allowed, at most so many."""
+        """The next characters that are allowed, at most `most`."""
         end = self.at
         while end < min(self.at + most, len(self.text)) and self.text[end] in allowed:
             end += 1

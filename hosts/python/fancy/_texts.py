@@ -7,9 +7,9 @@ from bisect import bisect_right
 from functools import lru_cache
 from typing import Any, List, Optional
 
-# Of so many characters one has its byte written down.
+# One of this many characters has its byte written down.
 _STEP = 256
-# So many texts keep their UTF-8 from call to call.
+# This many texts keep their UTF-8 from call to call.
 _KEPT = 8
 
 
