@@ -6,7 +6,7 @@ use std::fmt;
 use std::ops::{Index, Range};
 use std::sync::Arc;
 
-/// A match, or what a group took: where it lies in its text, in bytes.
+/// A match, or what a group captured: a part of a text. Positions are in bytes of the text, from 0.
 #[derive(Clone, Copy, PartialEq, Eq)]
 pub struct Match<'t> {
     text: &'t str,
@@ -15,27 +15,27 @@ pub struct Match<'t> {
 }
 
 impl<'t> Match<'t> {
-    /// The match from one byte of a text to another, if there is one: what is not set has no place.
+    /// The match from one byte of a text to another; none for a group that is not set.
     pub(crate) fn of(text: &'t str, start: usize, end: usize) -> Option<Match<'t>> {
         (start != fancy_sys::FANCY_UNSET).then_some(Match { text, start, end })
     }
 
-    /// The byte where it begins.
+    /// The byte where the match begins.
     pub fn start(&self) -> usize {
         self.start
     }
 
-    /// The byte behind it.
+    /// The byte where the match ends: the first one after it.
     pub fn end(&self) -> usize {
         self.end
     }
 
-    /// Where it lies in its text, in bytes.
+    /// The bytes of the match, from [`start`](Match::start) to [`end`](Match::end).
     pub fn range(&self) -> Range<usize> {
         self.start..self.end
     }
 
-    /// What was taken.
+    /// The part of the text that matched.
     pub fn as_str(&self) -> &'t str {
         &self.text[self.range()]
     }
@@ -63,7 +63,7 @@ impl From<Match<'_>> for Range<usize> {
     }
 }
 
-/// A match with its groups.
+/// A match with its groups, by their numbers and names. Group 0 is the match itself.
 ///
 /// ```
 /// # fn main() -> fancy::Result<()> {
@@ -99,18 +99,21 @@ impl<'t> Captures<'t> {
         }
     }
 
-    /// What the group of a number took, 0 for the whole match; none if it is not set, or not there.
+    /// What the group with this number captured. `None` if the group is not set, or if there is no such group. Group 0 is the
+    /// match.
     pub fn get(&self, i: usize) -> Option<Match<'t>> {
         let at = i.checked_mul(2)?;
         Match::of(self.text, *self.spans.get(at)?, *self.spans.get(at + 1)?)
     }
 
-    /// What the group of a name took; of several groups with the name, the first that is set.
+    /// What the group with this name captured; of several groups with the name, the first that is set. `None` if none of them
+    /// is set, or if no group has the name.
     pub fn name(&self, name: &str) -> Option<Match<'t>> {
         self.names.numbers(name).find_map(|number| self.get(number))
     }
 
-    /// Appends what a template writes: `$1`, `${1}`, `$name` and `${name}` stand for groups, and `$$` for a dollar.
+    /// Appends a template to `dst`, with each reference to a group replaced by what the group captured: `$1`, `${1}`, `$name`
+    /// and `${name}` are groups, and `$$` is a dollar.
     ///
     /// Without braces a name is the longest run of letters, digits and `_`. A group that is not set, or not there,
     /// writes nothing.
@@ -118,7 +121,7 @@ impl<'t> Captures<'t> {
         Expander::default().append_expansion(dst, replacement, self);
     }
 
-    /// Every group, by its number: the whole match comes first.
+    /// What the groups captured, from group 0 on, as an iterator. An item is `None` if its group is not set.
     pub fn iter<'c>(&'c self) -> SubCaptureMatches<'c, 't> {
         SubCaptureMatches {
             captures: self,
@@ -126,7 +129,7 @@ impl<'t> Captures<'t> {
         }
     }
 
-    /// How many groups there are, with group 0.
+    /// How many groups the pattern has, set or not, with group 0.
     pub fn len(&self) -> usize {
         self.spans.len() / 2
     }
@@ -170,7 +173,7 @@ impl Index<&str> for Captures<'_> {
     }
 }
 
-/// Every group of a match; see [`Captures::iter`].
+/// What the groups of a match captured; see [`Captures::iter`].
 #[derive(Clone, Debug)]
 pub struct SubCaptureMatches<'c, 't> {
     captures: &'c Captures<'t>,

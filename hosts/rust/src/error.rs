@@ -3,23 +3,23 @@
 use fancy_sys as sys;
 use std::fmt;
 
-/// What a call answers that may fail.
+/// What a call that may fail returns.
 pub type Result<T> = std::result::Result<T, Error>;
 
-/// A byte of a pattern.
+/// A byte of a pattern, from 0 to its length.
 pub type ParseErrorPosition = usize;
 
-/// Why a call has no answer.
+/// Why a call has no result. `Display` writes a sentence for a reader.
 #[derive(Clone, Debug, PartialEq, Eq)]
 #[non_exhaustive]
 pub enum Error {
-    /// The pattern cannot be read: the byte of the fault, and what is wrong there.
+    /// The pattern cannot be read: the byte of the pattern where it fails, and what is wrong there.
     ParseError(ParseErrorPosition, ParseError),
-    /// The pattern is read, and refused.
+    /// The pattern can be read, and is refused.
     CompileError(Box<CompileError>),
-    /// A search passed a limit.
+    /// A search exceeds a limit.
     RuntimeError(RuntimeError),
-    /// A request for memory was refused.
+    /// Out of memory: an allocation of the library failed.
     Memory,
 }
 
@@ -35,7 +35,7 @@ pub enum ParseError {
     UnopenedCloseParen,
     /// The counts of a loop are out of order or too large.
     InvalidRepeat,
-    /// The pattern nests deeper than 250, or a tree deeper than was allowed.
+    /// The pattern nests deeper than 250, or a tree deeper than `max_depth`.
     RecursionExceeded,
     /// A `\` is last.
     TrailingBackslash,
@@ -49,13 +49,13 @@ pub enum ParseError {
     InvalidCodepointValue,
     /// A class is not closed.
     InvalidClass,
-    /// No such flag, or none where one has to stand.
+    /// No such flag, or no flag where one is needed.
     UnknownFlag,
     /// The flag `u` cannot be cleared.
     NonUnicodeUnsupported,
     /// The number of a group is too large.
     InvalidBackref,
-    /// A quantifier behind nothing that can be repeated.
+    /// A quantifier after nothing that can be repeated.
     TargetNotRepeatable,
     /// No name and no number of a group, or not what closes it.
     InvalidGroupName,
@@ -75,35 +75,35 @@ pub enum CompileError {
     InvalidBackref(usize),
     /// A template names no group: the name.
     InvalidGroupNameBackref(String),
-    /// A group is referred to by its number where groups have names.
+    /// A group is referred to by its number, and groups have names.
     NamedBackrefOnly,
-    /// This is read, and not supported.
+    /// This can be read, and is not supported.
     FeatureNotYetSupported,
     /// A call of a group that is not there.
     SubroutineCallTargetNotFound,
     /// A reference or a condition to a name that no group has.
     UnresolvedAstNode,
-    /// A group calls itself before anything is taken: the message, with its description.
+    /// A group calls itself before anything is matched: the message, with its description.
     LeftRecursiveSubroutineCall(String),
     /// A recursion that never ends.
     NeverEndingRecursion,
-    /// A look-behind without a size of its own.
+    /// A look-behind whose matches have several lengths.
     VariableLookBehindRequiresFeature,
     /// The program of the pattern would have too many instructions.
     PatternTooComplex,
-    /// More nodes of the pattern would be written out in one another than `max_nesting`.
+    /// More nodes of the pattern nest in one another, with calls written out, than `max_nesting`.
     NestLimitExceeded,
     /// The analysis of the pattern exceeds `analysis_limit`.
     AnalysisLimitExceeded,
 }
 
-/// Which limit a search passed.
+/// The limit that a search exceeds.
 #[derive(Clone, Copy, Debug, PartialEq, Eq)]
 #[non_exhaustive]
 pub enum RuntimeError {
-    /// More branches were held at once than there is room for.
+    /// The search would hold more than 1,000,000 branches at one time.
     StackOverflow,
-    /// The search fell back to a branch more often than `backtrack_limit`.
+    /// The search backtracked more often than `backtrack_limit`.
     BacktrackLimitExceeded,
     /// The search executed more instructions than `step_limit`.
     StepLimitExceeded,

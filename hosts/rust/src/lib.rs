@@ -23,7 +23,7 @@
 //! - [`Options`] and [`Regex::of_tree`] are new, for trees and for the options of `fancy.h`.
 //! - [`Scanner`] is new: many patterns that are searched for together.
 //! - A search from a byte that is no character boundary panics.
-//! - Of several groups with one name, [`Captures::name`] gives the first that is set.
+//! - Of several groups with one name, [`Captures::name`] returns the first that is set.
 
 #![deny(missing_docs)]
 
@@ -50,7 +50,7 @@ pub use crate::splits::{Split, SplitN};
 
 use std::borrow::Cow;
 
-/// The pattern that spells a text, whatever flags hold: a backslash stands before each character with a meaning of its own,
+/// The pattern that matches a text as it is, under all flags: a backslash is before each character with a meaning of its own,
 /// and before blanks.
 ///
 /// ```

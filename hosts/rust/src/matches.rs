@@ -10,7 +10,7 @@ use std::vec::IntoIter;
 /// before, since each checks the whole text.
 const MOST_ROOM: usize = 1 << 17;
 
-/// What a list tells of each match.
+/// What a list has of each match.
 #[derive(Clone, Copy, Debug, PartialEq, Eq)]
 pub(crate) enum Form {
     /// Its start and end.
@@ -52,7 +52,7 @@ impl<'r, 't> Rows<'r, 't> {
         }
     }
 
-    /// Asks for the next rows, as many as there is room for.
+    /// Finds the next rows, while there is room.
     fn find_more(&mut self) {
         let mut numbers = vec![0; self.room * self.width];
         let (count, why) =
@@ -70,7 +70,7 @@ impl<'r, 't> Rows<'r, 't> {
         }
     }
 
-    /// Whether there is a row more; it then stands at the front of what was found.
+    /// Whether there is a row more; it is then at the front of what was found.
     fn has_next(&mut self) -> bool {
         if self.found.len() == 0 && self.room > 0 {
             self.find_more();
@@ -79,7 +79,7 @@ impl<'r, 't> Rows<'r, 't> {
     }
 }
 
-/// Every match of a text; see [`Regex::find_iter`].
+/// The matches of a text; see [`Regex::find_iter`].
 #[derive(Debug)]
 pub struct Matches<'r, 't>(Rows<'r, 't>);
 
@@ -93,7 +93,7 @@ impl<'r, 't> Matches<'r, 't> {
         self.0.text
     }
 
-    /// The regex that is searched for.
+    /// The regex whose matches these are.
     pub fn regex(&self) -> &'r Regex {
         self.0.regex
     }
@@ -111,7 +111,7 @@ impl<'t> Iterator for Matches<'_, 't> {
     }
 }
 
-/// Every match of a text, with its groups; see [`Regex::captures_iter`].
+/// The matches of a text, with their groups; see [`Regex::captures_iter`].
 #[derive(Debug)]
 pub struct CaptureMatches<'r, 't>(Rows<'r, 't>);
 
@@ -129,7 +129,7 @@ impl<'r, 't> CaptureMatches<'r, 't> {
         self.0.text
     }
 
-    /// The regex that is searched for.
+    /// The regex whose matches these are.
     pub fn regex(&self) -> &'r Regex {
         self.0.regex
     }

@@ -15,7 +15,7 @@ pub struct Options {
 impl Default for Options {
     /// Those of `fancy_default_options`. A text is a `str`, so the library need not check it.
     fn default() -> Options {
-        // Safety: the call takes nothing.
+        // Safety: the call has no arguments.
         let defaults = unsafe { sys::fancy_default_options() };
         Options {
             host: sys::FancyOptions {
@@ -39,55 +39,56 @@ macro_rules! setters {
 
 impl Options {
     setters! {
-        /// How many instructions the program of a pattern may have; 100,000 unless set.
+        /// How many instructions the program of a pattern may have; 100,000 by default.
         max_prog_size: usize,
-        /// How many nodes of a pattern may be written out in one another; 500 unless set, for a stack of 1 MB.
+        /// How many nodes of a pattern may nest in one another, with calls written out; 500 by default, for a stack of 1 MB.
         max_nesting: usize,
-        /// How many nodes the analysis of a pattern may look at in rounds that change something; 5,000,000 unless set. 0
+        /// How many nodes the analysis of a pattern may look at in rounds that change something; 5,000,000 by default. 0
         /// is no limit.
         analysis_limit: usize,
-        /// How deep a tree may nest; 250 unless set, for a stack of 1 MB.
+        /// How many parentheses of a tree may be open at one place; 250 by default, for a stack of 1 MB.
         max_depth: usize,
-        /// How often a search may fall back to a branch. Unless set it is 20,000,000 times, and once more for each byte
-        /// of the text and for its end.
+        /// How often a search may backtrack to a branch. The default is 20,000,000, and one more for each byte of the
+        /// text and for its end.
         backtrack_limit: usize,
-        /// How many instructions a search may execute. Unless set, or with `u64::MAX`, it is 100,000,000, and eight more
+        /// How many instructions a search may execute. The default, and `u64::MAX`, is 100,000,000, and eight more
         /// for each byte of the text and for its end.
         step_limit: u64,
-        /// How many states a search may visit in the parts of a pattern that an automaton searches for; 20,000,000 unless
-        /// set, some 3 s at worst. 0 is no limit.
+        /// How many states a search may visit in the parts of a pattern that an automaton searches; 20,000,000 by default,
+        /// some 3 s at worst. 0 is no limit.
         visit_limit: u64,
-        /// How many bytes a search may keep for these parts at one time; 256 MiB unless set. 0 is no limit.
+        /// How many bytes a search may keep for these parts at one time, and again for its branches; 256 MiB by default. 0
+        /// is no limit.
         memory_limit: usize,
-        /// Only the first start is tried: said to the compiler.
+        /// Only the first start is tried; for the compiler.
         compile_anchored: bool,
-        /// Only the first start is tried: said to a search.
+        /// Only the first start is tried; for a search.
         anchored: bool,
-        /// No match ended where a search begins, for `\G`.
+        /// No match ended where a search begins, so `\G` fails there.
         not_continued: bool,
-        /// A match has to take something.
+        /// A match is not empty.
         not_empty: bool,
         /// No empty match at the end of a text after a newline.
         end_text: bool,
-        /// Folding, word characters and classes go by ASCII.
+        /// Folding, word characters and classes are those of ASCII.
         ascii: bool,
-        /// Of the matches at the earliest start the longest one is found, and not the first.
+        /// A search finds the longest match, in bytes, at the earliest start, and not the first one.
         longest: bool,
-        /// Literals, classes and references are folded, as with the flag `i`.
+        /// Literals, classes and references match without regard to case, as with the flag `i`.
         case_insensitive: bool,
-        /// `^` and `$` hold at the ends of lines, as with the flag `m`.
+        /// `^` and `$` also match where a line begins and ends, as with the flag `m`.
         multi_line: bool,
-        /// `.` takes a newline, as with the flag `s`.
+        /// `.` matches a newline too, as with the flag `s`.
         dot_matches_new_line: bool,
-        /// White space and comments in the pattern are left out, as with the flag `x`.
+        /// White space and comments in the pattern are ignored, as with the flag `x`.
         ignore_whitespace: bool,
         /// A CR before an LF belongs to the end of its line, as with the flag `R`.
         crlf: bool,
         /// Quantifiers are lazy, and greedy with a `?`, as with the flag `U`.
         swap_greed: bool,
-        /// Under `multi_line` a line begins where Oniguruma has it.
+        /// Under `multi_line` a line begins where it does for Oniguruma.
         oniguruma: bool,
-        /// Where a group has a name, a plain `( )` captures nothing.
+        /// If the pattern has a named group, a plain `( )` captures nothing.
         named_groups_only: bool,
     }
 }
@@ -128,71 +129,73 @@ impl RegexBuilder {
         }
     }
 
-    /// The regex of the pattern.
+    /// Compiles the pattern with these options.
     ///
-    /// A pattern that cannot be read is an [`Error::ParseError`](crate::Error::ParseError), and one that is refused an
-    /// [`Error::CompileError`](crate::Error::CompileError).
+    /// # Errors
+    ///
+    /// Those of [`Regex::new`].
     pub fn build(&self) -> Result<Regex> {
         Regex::with_options(&self.pattern, self.options)
     }
 
     builder_setters! {
-        /// Literals, classes and references are folded, as with the flag `i`. Off unless set.
+        /// Literals, classes and references match without regard to case, as with the flag `i`. Off by default.
         case_insensitive: bool => case_insensitive,
-        /// `^` and `$` hold at the ends of lines, as with the flag `m`. Off unless set.
+        /// `^` and `$` also match where a line begins and ends, as with the flag `m`. Off by default.
         multi_line: bool => multi_line,
-        /// `.` takes a newline, as with the flag `s`. Off unless set.
+        /// `.` matches a newline too, as with the flag `s`. Off by default.
         dot_matches_new_line: bool => dot_matches_new_line,
-        /// White space and comments in the pattern are left out, as with the flag `x`. Off unless set.
+        /// White space and comments in the pattern are ignored, as with the flag `x`. Off by default.
         ignore_whitespace: bool => ignore_whitespace,
-        /// The same.
+        /// As [`ignore_whitespace`](RegexBuilder::ignore_whitespace).
         verbose_mode: bool => ignore_whitespace,
-        /// A CR before an LF belongs to the end of its line, as with the flag `R`. Off unless set.
+        /// A CR before an LF belongs to the end of its line, as with the flag `R`. Off by default.
         crlf: bool => crlf,
-        /// Quantifiers are lazy, and greedy with a `?`, as with the flag `U`. Off unless set.
+        /// Quantifiers are lazy, and greedy with a `?`, as with the flag `U`. Off by default.
         swap_greed: bool => swap_greed,
-        /// Under `multi_line` a line begins where Oniguruma has it. Off unless set.
+        /// Under `multi_line` a line begins where it does for Oniguruma. Off by default.
         oniguruma_mode: bool => oniguruma,
-        /// Where a group has a name, a plain `( )` captures nothing. Off unless set.
+        /// If the pattern has a named group, a plain `( )` captures nothing. Off by default.
         ignore_numbered_groups_when_named_groups_exist: bool => named_groups_only,
-        /// A match has to take something. Off unless set.
+        /// A match is not empty. Off by default.
         find_not_empty: bool => not_empty,
-        /// Of the matches at the earliest start the longest one is found, in bytes, and not the first. Off unless set.
+        /// A search finds the longest match, in bytes, at the earliest start, and not the first one. Off by default.
         leftmost_longest: bool => longest,
-        /// How often a search may fall back to a branch. Unless set it is 20,000,000 times, and once more for each byte
-        /// of the text and for its end.
+        /// How often a search may backtrack to a branch. The default is 20,000,000, and one more for each byte of the
+        /// text and for its end.
         backtrack_limit: usize => backtrack_limit,
-        /// How many instructions a search may execute. Unless set, or with `u64::MAX`, it is 100,000,000, and eight more
+        /// How many instructions a search may execute. The default, and `u64::MAX`, is 100,000,000, and eight more
         /// for each byte of the text and for its end.
         step_limit: u64 => step_limit,
-        /// How many states a search may visit in the parts of the pattern that an automaton searches for; 20,000,000
-        /// unless set, some 3 s at worst. 0 is no limit.
+        /// How many states a search may visit in the parts of the pattern that an automaton searches; 20,000,000 by
+        /// default, some 3 s at worst. 0 is no limit.
         visit_limit: u64 => visit_limit,
-        /// How many bytes a search may keep for these parts at one time; 256 MiB unless set. 0 is no limit.
+        /// How many bytes a search may keep for these parts at one time, and again for its branches; 256 MiB by default. 0
+        /// is no limit.
         memory_limit: usize => memory_limit,
-        /// How many instructions the program of the pattern may have; 100,000 unless set.
+        /// How many instructions the program of the pattern may have; 100,000 by default.
         max_prog_size: usize => max_prog_size,
-        /// How many nodes of the pattern may be written out in one another; 500 unless set, for a stack of 1 MB.
+        /// How many nodes of the pattern may nest in one another, with calls written out; 500 by default, for a stack of 1 MB.
         max_nesting: usize => max_nesting,
-        /// How many nodes the analysis of the pattern may look at in rounds that change something; 5,000,000 unless set. A
-        /// pattern that takes more is refused as `CompileError::AnalysisLimitExceeded`. 0 is no limit.
+        /// How many nodes the analysis of the pattern may look at in rounds that change something; 5,000,000 by default. A
+        /// pattern that exceeds it is refused as `CompileError::AnalysisLimitExceeded`. 0 is no limit.
         analysis_limit: usize => analysis_limit,
     }
 
-    /// Folding, classes and word characters go by Unicode, and otherwise by ASCII. On unless set.
+    /// Folding, classes and word characters are those of Unicode, and otherwise those of ASCII. On by default.
     pub fn unicode_mode(&mut self, yes: bool) -> &mut RegexBuilder {
         self.options.host.ascii = !yes;
         self
     }
 
-    /// Nothing: this engine has no automaton of `regex` whose size could be bounded; [`max_prog_size`] bounds a program.
+    /// Does nothing: this engine has no automaton of `regex` whose size could be bounded; [`max_prog_size`] bounds a program.
     ///
     /// [`max_prog_size`]: RegexBuilder::max_prog_size
     pub fn delegate_size_limit(&mut self, _limit: usize) -> &mut RegexBuilder {
         self
     }
 
-    /// Nothing, as [`delegate_size_limit`](RegexBuilder::delegate_size_limit).
+    /// Does nothing, as [`delegate_size_limit`](RegexBuilder::delegate_size_limit).
     pub fn delegate_dfa_size_limit(&mut self, _limit: usize) -> &mut RegexBuilder {
         self
     }

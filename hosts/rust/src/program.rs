@@ -38,7 +38,7 @@ pub(crate) fn start_of(text: &str) -> *const c_char {
     text.as_ptr().cast()
 }
 
-/// What a call writes into the room that it is given, whose answer is the length of the whole.
+/// What a call writes into the room that it is given, which returns the length of the whole.
 pub(crate) fn written(write: impl Fn(*mut c_char, usize) -> usize) -> String {
     let mut room = vec![0u8; 64];
     loop {
@@ -75,7 +75,7 @@ impl Program {
         }
     }
 
-    /// A program that shares what was compiled, with memory of its own for its searches. The only error is want of memory.
+    /// A program that shares what was compiled, with memory of its own for its searches. The only error is `Memory`.
     fn try_clone(&mut self) -> Result<Program> {
         let mut copy = Program(sys::FANCY_NOTHING);
         // Safety: as above.
@@ -109,7 +109,7 @@ impl Program {
         is_found(&outcome)
     }
 
-    /// Whether a text has a match; start and end of its groups are written, as many as there is room for.
+    /// Whether a text has a match; start and end of its groups are written, as far as there is room.
     pub(crate) fn find(
         &mut self,
         text: &str,
@@ -131,8 +131,8 @@ impl Program {
         is_found(&outcome)
     }
 
-    /// Writes the rows of the next matches of a list, and answers how many there are and why it is no more: an error, or
-    /// the end of the list.
+    /// Writes the rows of the next matches of a list, and returns how many there are and why there are no more: an
+    /// error, or the end of the list.
     pub(crate) fn find_all(
         &mut self,
         form: Form,
@@ -186,7 +186,7 @@ impl Drop for Patterns {
 }
 
 impl Patterns {
-    /// Adds a pattern that was compiled with these options before. The only error is want of memory.
+    /// Adds a pattern that was compiled with these options before. The only error is `Memory`.
     pub(crate) fn add(&mut self, pattern: &str, options: &Options) -> Result<()> {
         // Safety, here and below: each pointer is that of a reference, with its length, and none is null.
         let outcome = unsafe {
@@ -195,8 +195,8 @@ impl Patterns {
         is_found(&outcome).map(|_| ())
     }
 
-    /// Writes the rows of the next matches of a scan, each with so many groups, and answers how many there are and why it is
-    /// no more: an error, or the end of the scan.
+    /// Writes the rows of the next matches of a scan, each with this many groups, and returns how many there are and
+    /// why there are no more: an error, or the end of the scan.
     pub(crate) fn scan(
         &mut self,
         text: &str,
@@ -246,7 +246,7 @@ fn message(source: &Source, options: &Options, outcome: &sys::FancyOutcome) -> S
     }
 }
 
-/// Programs of one pattern or tree, which share what was compiled: a call takes one that is idle, and a new copy where none
+/// Programs of one pattern or tree, which share what was compiled: a call takes one that is idle, or a new copy if none
 /// is.
 pub(crate) struct Pool {
     source: Source,
@@ -282,7 +282,7 @@ impl Pool {
         &self.options
     }
 
-    /// Lets a call have a program to itself. The only error of a copy is want of memory.
+    /// Lets a call have a program to itself. The only error of a copy is `Memory`.
     pub(crate) fn with<T>(&self, call: impl FnOnce(&mut Program) -> Result<T>) -> Result<T> {
         let idle = locked(&self.idle).pop();
         let mut program = match idle {

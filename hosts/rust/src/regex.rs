@@ -74,19 +74,35 @@ impl Names {
 impl Regex {
     /// Compiles a pattern with the default options; see [`RegexBuilder`](crate::RegexBuilder) for others.
     ///
-    /// A pattern that cannot be read is an [`Error::ParseError`], and one that is refused an [`Error::CompileError`].
+    /// # Errors
+    ///
+    /// [`Error::ParseError`], with the byte of the pattern, if it cannot be read; [`Error::CompileError`] if it is refused;
+    /// [`Error::Memory`] if an allocation of the library fails.
+    ///
+    /// ```
+    /// use fancy::{Error, ParseError, Regex};
+    ///
+    /// assert_eq!(Regex::new("a(b").err(), Some(Error::ParseError(3, ParseError::UnclosedOpenParen)));
+    /// ```
     pub fn new(re: &str) -> Result<Regex> {
         Regex::with_options(re, Options::default())
     }
 
-    /// Compiles a pattern.
+    /// Compiles a pattern with these options.
+    ///
+    /// # Errors
+    ///
+    /// Those of [`Regex::new`].
     pub fn with_options(pattern: &str, options: Options) -> Result<Regex> {
         Regex::of(Source::Pattern(pattern.to_string()), options)
     }
 
     /// Compiles the tree that a text in the notation of docs/MEANING.md spells. Its groups have no names.
     ///
-    /// A text that spells no tree is an [`Error::ParseError`] of kind `GeneralParseError`.
+    /// # Errors
+    ///
+    /// [`Error::ParseError`] of kind `GeneralParseError`, with the byte, if the text spells no tree; otherwise those of
+    /// [`Regex::new`].
     pub fn of_tree(tree: &str, options: Options) -> Result<Regex> {
         Regex::of(Source::Tree(tree.to_string()), options)
     }
@@ -106,12 +122,12 @@ impl Regex {
 
     // ---- Groups
 
-    /// How many groups there are, with group 0.
+    /// How many groups the pattern has, with group 0.
     pub fn captures_len(&self) -> usize {
         self.shared.names.len()
     }
 
-    /// The name of each group, group 0 first, which has none.
+    /// The names of all groups, from group 0 on; `None` for a group without a name, as group 0 is.
     pub fn capture_names(&self) -> CaptureNames<'_> {
         CaptureNames(self.shared.names.of_groups.iter())
     }
@@ -130,20 +146,43 @@ impl Regex {
 
     // ---- One match
 
-    /// Whether there is a match.
+    /// Whether the text has a match.
     ///
-    /// An error, here and in each search, is an [`Error::RuntimeError`] or [`Error::Memory`].
+    /// # Errors
+    ///
+    /// Of this and of each other search: [`Error::RuntimeError`] if the search exceeds a limit, which it names, and
+    /// [`Error::Memory`] if an allocation of the library fails.
     pub fn is_match(&self, text: &str) -> Result<bool> {
         let pool = &self.shared.pool;
         pool.with(|program| program.is_match(text, pool.options()))
     }
 
-    /// The first match.
+    /// Finds the first match: the one with the earliest start, and of several there the first in the order of preference, or
+    /// the longest under `leftmost_longest`. Positions are in bytes of the text, from 0. `Ok(None)` means that there is no
+    /// match.
+    ///
+    /// # Errors
+    ///
+    /// Those of [`is_match`](Regex::is_match).
+    ///
+    /// ```
+    /// # fn main() -> fancy::Result<()> {
+    /// use fancy::Regex;
+    ///
+    /// let found = Regex::new(r"(?<=\$)[0-9]+")?.find("tea 2, cake $42")?.unwrap();
+    /// assert_eq!((found.range(), found.as_str()), (13..15, "42"));
+    /// # Ok(())
+    /// # }
+    /// ```
     pub fn find<'t>(&self, text: &'t str) -> Result<Option<Match<'t>>> {
         self.find_from_pos(text, 0)
     }
 
-    /// The first match that begins at a byte of the text or later. What lies before is there for look-behind and `^`.
+    /// Finds the first match that starts at byte `pos` or later. Look-behind, `\b` and `^` see the text before `pos`.
+    ///
+    /// # Errors
+    ///
+    /// Those of [`is_match`](Regex::is_match).
     ///
     /// # Panics
     ///
@@ -158,12 +197,20 @@ impl Regex {
         })
     }
 
-    /// The first match with its groups.
+    /// Finds the first match, with its groups.
+    ///
+    /// # Errors
+    ///
+    /// Those of [`is_match`](Regex::is_match).
     pub fn captures<'t>(&self, text: &'t str) -> Result<Option<Captures<'t>>> {
         self.captures_from_pos(text, 0)
     }
 
-    /// The first match, with its groups, that begins at a byte of the text or later.
+    /// Finds the first match that starts at byte `pos` or later, with its groups.
+    ///
+    /// # Errors
+    ///
+    /// Those of [`is_match`](Regex::is_match).
     ///
     /// # Panics
     ///
@@ -192,7 +239,8 @@ impl Regex {
 
     // ---- All matches
 
-    /// Every match, from left to right. An empty match where the last one ended is left out. An error is the last item.
+    /// The matches from left to right, as an iterator. Matches do not overlap, and an empty match directly after another match
+    /// is left out. An item can be an error of [`is_match`](Regex::is_match); it is the last one.
     ///
     /// ```
     /// # fn main() -> fancy::Result<()> {
@@ -207,7 +255,7 @@ impl Regex {
         Matches::of(self, text)
     }
 
-    /// The next matches of a list, with how many there are and why it is no more.
+    /// The next matches of a list, with how many there are and why there are no more.
     pub(crate) fn next_matches(
         &self,
         form: Form,
@@ -221,28 +269,31 @@ impl Regex {
         found.unwrap_or_else(|error| (0, Err(error)))
     }
 
-    /// Every match of [`find_iter`](Regex::find_iter), with its groups.
+    /// The matches of [`find_iter`](Regex::find_iter), each with its groups, as an iterator.
     pub fn captures_iter<'r, 't>(&'r self, text: &'t str) -> CaptureMatches<'r, 't> {
         CaptureMatches::of(self, text)
     }
 
-    /// The pieces of the text between the matches. An error is the last item.
+    /// The pieces of the text between the matches, as an iterator: one more than there are matches. An item can be an error of
+    /// [`is_match`](Regex::is_match); it is the last one.
     pub fn split<'r, 't>(&'r self, target: &'t str) -> Split<'r, 't> {
         Split::of(self.find_iter(target))
     }
 
-    /// At most `limit` pieces: the last one is the rest of the text. With a limit of 0 there are none.
+    /// As [`split`](Regex::split), with `limit` pieces at most: the last one is the rest of the text. With a limit of 0 there
+    /// are none.
     pub fn splitn<'r, 't>(&'r self, target: &'t str, limit: usize) -> SplitN<'r, 't> {
         SplitN::of(self.split(target), limit)
     }
 
     // ---- Replacing
 
-    /// The text with its first match replaced.
+    /// The text with its first match replaced, or the text itself if there is no match. [`Replacer`] says what `rep` can be:
+    /// in a text, `$1` and `$name` are groups.
     ///
     /// # Panics
     ///
-    /// If the search has an error: [`try_replacen`](Regex::try_replacen) answers it.
+    /// If the search ends with an error: [`try_replacen`](Regex::try_replacen) returns it.
     ///
     /// ```
     /// # fn main() -> fancy::Result<()> {
@@ -258,7 +309,7 @@ impl Regex {
         self.replacen(text, 1, rep)
     }
 
-    /// The text with every match replaced.
+    /// The text with all its matches replaced, or the text itself if there is no match.
     ///
     /// # Panics
     ///
@@ -267,7 +318,7 @@ impl Regex {
         self.replacen(text, 0, rep)
     }
 
-    /// The text with its first `limit` matches replaced, all of them where that is 0.
+    /// The text with its first `limit` matches replaced, all of them if `limit` is 0.
     ///
     /// # Panics
     ///
@@ -279,8 +330,11 @@ impl Regex {
         }
     }
 
-    /// The text with its first `limit` matches replaced, all of them where that is 0. The error of a search for one of
-    /// them is answered.
+    /// As [`replacen`](Regex::replacen), without a panic.
+    ///
+    /// # Errors
+    ///
+    /// Those of [`is_match`](Regex::is_match).
     pub fn try_replacen<'t, R: Replacer>(
         &self,
         text: &'t str,
@@ -361,7 +415,7 @@ impl TryFrom<String> for Regex {
     }
 }
 
-/// The name of each group; see [`Regex::capture_names`].
+/// The names of all groups; see [`Regex::capture_names`].
 #[derive(Clone, Debug)]
 pub struct CaptureNames<'r>(std::slice::Iter<'r, Option<String>>);
 

@@ -14,8 +14,8 @@ use std::vec::IntoIter;
 /// before, since each searches for each pattern once more.
 const MOST_ROOM: usize = 1 << 17;
 
-/// Patterns that are searched for together, as the rules of a highlighter are: of several the match that begins first, and of
-/// several that begin there that of the pattern that was added first.
+/// Patterns that are searched for together, as the rules of a highlighter are. Of their first matches the one that begins
+/// first is found, and of several that begin there that of the pattern that was added first.
 ///
 /// ```
 /// # fn main() -> fancy::Result<()> {
@@ -33,27 +33,27 @@ const MOST_ROOM: usize = 1 << 17;
 pub struct Scanner {
     patterns: Patterns,
     names: Vec<Arc<Names>>,
-    /// How many groups a row has: as many as the pattern with the most.
+    /// How many groups a row has: those of the pattern with the most.
     groups: usize,
 }
 
-/// A pattern whose search passed a limit: whether it has a match is not known.
+/// A pattern whose search exceeded a limit: whether it has a match is not known.
 #[derive(Clone, Copy, Debug, PartialEq, Eq)]
 pub struct Stopped {
-    /// How many patterns were added before it.
+    /// The pattern: how many patterns were added before it.
     pub index: usize,
-    /// The limit.
+    /// The limit that was exceeded.
     pub limit: RuntimeError,
 }
 
 /// A match of one of the patterns.
 #[derive(Clone, Debug)]
 pub struct ScanMatch<'t> {
-    /// How many patterns were added before its own.
+    /// The pattern that matched: how many patterns were added before it.
     pub index: usize,
     /// The match, with its groups.
     pub captures: Captures<'t>,
-    /// The first pattern whose search passed a limit, if there is one: it may have a match that begins before this one.
+    /// The first pattern whose search exceeded a limit, if there is one: it may have a match that begins before this one.
     pub stopped: Option<Stopped>,
 }
 
@@ -65,12 +65,18 @@ impl Scanner {
 
     /// Adds a pattern, after the others, with the default options.
     ///
-    /// It is refused as [`Regex::new`] refuses it. After an error the scanner is as it was.
+    /// # Errors
+    ///
+    /// Those of [`Regex::new`]. After an error the scanner has the patterns that it had.
     pub fn add(&mut self, pattern: &str) -> Result<()> {
         self.add_with_options(pattern, Options::default())
     }
 
-    /// Adds a pattern, after the others.
+    /// Adds a pattern, after the others, with these options.
+    ///
+    /// # Errors
+    ///
+    /// Those of [`Regex::new`]. After an error the scanner has the patterns that it had.
     pub fn add_with_options(&mut self, pattern: &str, options: Options) -> Result<()> {
         let regex = Regex::with_options(pattern, options)?;
         self.patterns.add(pattern, &options)?;
@@ -84,14 +90,17 @@ impl Scanner {
         self.names.len()
     }
 
-    /// Whether there are none.
+    /// Whether there are no patterns.
     pub fn is_empty(&self) -> bool {
         self.names.is_empty()
     }
 
-    /// The first match from a byte of the text on. What lies before is there for look-behind and `^`.
+    /// Finds the first match that starts at byte `pos` or later. Look-behind, `\b` and `^` see the text before `pos`.
     ///
-    /// An [`Error::RuntimeError`] says that a pattern passed a limit, and no other has a match.
+    /// # Errors
+    ///
+    /// [`Error::RuntimeError`] if a pattern exceeds a limit and no other has a match; [`Error::Memory`] if an allocation of
+    /// the library fails.
     ///
     /// # Panics
     ///
@@ -105,15 +114,16 @@ impl Scanner {
         scan.next().transpose()
     }
 
-    /// Every match, from left to right: each search begins where the match before ended, or one character further where that
-    /// took nothing. An error is the last item, as of [`find_from_pos`](Scanner::find_from_pos).
+    /// The matches from left to right, as an iterator. Each search begins where the match before it ended, or one character
+    /// further if that match was empty. An item can be an error of [`find_from_pos`](Scanner::find_from_pos); it is the last
+    /// one.
     ///
-    /// What is found of a pattern is kept as long as it holds, so that a scan goes over the text few times for each pattern.
+    /// A scan keeps the match that it found for a pattern while it holds, so it reads the text few times for each pattern.
     pub fn scan<'s, 't>(&'s mut self, text: &'t str) -> Scan<'s, 't> {
         self.scan_from_pos(text, 0)
     }
 
-    /// The same from a byte of the text on.
+    /// As [`scan`](Scanner::scan), from byte `pos` of the text on.
     ///
     /// # Panics
     ///
@@ -141,7 +151,7 @@ impl fmt::Debug for Scanner {
     }
 }
 
-/// Every match of the patterns of a scanner; see [`Scanner::scan`].
+/// The matches of the patterns of a scanner; see [`Scanner::scan`].
 #[derive(Debug)]
 pub struct Scan<'s, 't> {
     scanner: &'s mut Scanner,
@@ -157,7 +167,7 @@ pub struct Scan<'s, 't> {
 }
 
 impl<'t> Scan<'_, 't> {
-    /// Asks for the next rows, as many as there is room for.
+    /// Finds the next rows, while there is room.
     fn find_more(&mut self) {
         let mut numbers = vec![0; self.room * self.width];
         let groups = self.scanner.groups;

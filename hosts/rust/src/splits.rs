@@ -7,7 +7,7 @@ use crate::matches::Matches;
 #[derive(Debug)]
 pub struct Split<'r, 't> {
     matches: Matches<'r, 't>,
-    /// Where the next piece begins; none once the last one was given.
+    /// Where the next piece begins; none after the last one.
     start: Option<usize>,
 }
 
@@ -45,7 +45,7 @@ impl<'t> Iterator for Split<'_, 't> {
     }
 }
 
-/// At most so many pieces of a text; see [`Regex::splitn`](crate::Regex::splitn).
+/// At most `limit` pieces of a text; see [`Regex::splitn`](crate::Regex::splitn).
 #[derive(Debug)]
 pub struct SplitN<'r, 't> {
     pieces: Split<'r, 't>,

@@ -27,7 +27,7 @@ pub struct FancyScanner {
 /// A scanner without patterns: each begins with it.
 pub const FANCY_NO_PATTERNS: FancyScanner = FancyScanner { words: [0; 3] };
 
-/// Where the numbers of a match stand in its row.
+/// Where the numbers of a match are in its row.
 pub const FANCY_ROW_PATTERN: usize = 0;
 pub const FANCY_ROW_STOPPED: usize = 1;
 pub const FANCY_ROW_LIMIT: usize = 2;
