@@ -74,7 +74,7 @@ impl Around {
     }
 }
 
-/// The bytes after the first lines, so many.
+/// The bytes after the first `count` lines.
 pub fn skip_lines(bytes: &[u8], count: usize) -> &[u8] {
     let mut rest = bytes;
     'lines: for _ in 0..count {
@@ -86,7 +86,7 @@ pub fn skip_lines(bytes: &[u8], count: usize) -> &[u8] {
     rest
 }
 
-/// The last lines, so many, each with its line end.
+/// The last `count` lines, each with its line end.
 fn last_lines(bytes: &[u8], count: usize) -> &[u8] {
     let mut start = bytes.len();
     'lines: for _ in 0..count {

@@ -31,7 +31,7 @@ struct Walk<'s, 't> {
 }
 
 impl<'s, 't> Walk<'s, 't> {
-    /// Comes to the line with this number, and answers whether it is selected.
+    /// Goes to the line with this number, and returns whether it is selected.
     fn come_to(&mut self, number: usize) -> bool
         ensures { (all : List ℕ)
             → IsAt all number self.old

@@ -3,7 +3,7 @@
 use std::alloc::AllocError;
 use unicode_width::UnicodeWidthChar;
 
-/// So many characters are shown before a place in a long line, and so many from there on.
+/// How many characters are shown before a place in a long line, and again from there on.
 const BEFORE: usize = 50;
 
 const AFTER: usize = 30;

@@ -16,7 +16,7 @@ use std::fs::{DirEntry, File};
 use std::io::{ErrorKind, Read};
 use std::{fs, io};
 
-/// How many bytes a read of a file asks for.
+/// How many bytes a read of a file requests.
 const BLOCK: usize = 131_072;
 
 /// A search of files.

@@ -13,7 +13,7 @@ pub struct Line<'t> {
     pub number: usize,
     /// Where it begins, in bytes of the text.
     pub start: usize,
-    /// What stands in it, without the `\n` that ends it.
+    /// Its text, without the `\n` that ends it.
     pub text: &'t str,
 }
 

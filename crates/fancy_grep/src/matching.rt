@@ -37,7 +37,7 @@ fn is_chosen(inverted: bool, found: bool) -> bool
     if inverted { !found } else { found }
 }
 
-/// Whether a line may have a match: what is looked for may stand in it, or nothing is.
+/// Whether a line may have a match: what is looked for may be in it, or nothing is.
 fn may_match(sought: &mut Option<Occurrences<'_, '_>>, line: Line<'_>) -> bool
     ensures none { (i : Input)
         → (o : List ℕ → plain.RunOptions)
@@ -52,7 +52,7 @@ fn may_match(sought: &mut Option<Occurrences<'_, '_>>, line: Line<'_>) -> bool
     }
 }
 
-/// Whether a line has a match. It is not searched where what is looked for does not stand in it.
+/// Whether a line has a match. It is not searched if what is looked for is not in it.
 fn has_match(
     regex: &mut Regex,
     sought: &mut Option<Occurrences<'_, '_>>,
@@ -100,7 +100,7 @@ fn take<'t>(
 /// The lines of a text in which the regex has a match, or under `inverted` those in which it has none.
 ///
 /// Each line is searched as a text of its own, without its `\n`. Where it is known what each match takes, this is looked
-/// for in the whole text, and the lines without it are not searched. An error of a search, or want of memory, ends
+/// for in the whole text, and the lines without it are not searched. An error of a search, or out of memory, ends
 /// the list at that line.
 pub fn matching_lines<'t>(
     alloc: Global,
@@ -134,7 +134,7 @@ pub fn matching_lines<'t>(
     }
 }
 
-/// Where what is required stands in the text, if something is.
+/// Where what is required is in the text, if something is.
 fn occurrences_of<'t, 'r>(
     required: Option<&'r Required>,
     text: &'t str,

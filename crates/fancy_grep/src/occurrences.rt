@@ -1,4 +1,4 @@
-//! Where what each match takes stands in a text, asked for from line to line.
+//! Where a text has what each match contains, from line to line.
 
 ghost use Rattle.fancy_literals.specs.Required.{OneOf, Piece};
 ghost use Rattle.fancy_grep.specs.Needles.{needle_of};
@@ -81,7 +81,7 @@ impl<'t, 'n> Occurrences<'t, 'n> {
         }
     }
 
-    /// Whether it may stand in a line of the text.
+    /// Whether it may be in a line of the text.
     pub fn may_stand_in(&mut self, line: Line<'_>) -> bool
         ensures same { sought self.new ≡ sought self.old }
         ensures lacks { IsLineIn self.old.text.now (line_of line.entry)

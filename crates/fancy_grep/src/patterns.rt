@@ -18,7 +18,7 @@ use std::alloc::{AllocError, Global};
 /// How many instructions its program may have, unless said otherwise.
 const MOST_INSTRUCTIONS: usize = 1_000_000;
 
-/// How many nodes of the pattern may stand in one another, calls with them.
+/// How many nodes of the pattern may nest in one another, with calls written out.
 const MOST_NESTING: usize = 4_000;
 
 /// What a pattern and a search of a line may take, if it is not what `fancy_regex` allows.
@@ -39,7 +39,7 @@ pub struct Limits {
 pub enum Extent {
     /// Any part.
     Part,
-    /// A part with no word character before it or behind it.
+    /// A part with no word character before it or after it.
     Word,
     /// The whole line.
     Line,
@@ -121,7 +121,7 @@ pub struct Matcher {
 
 /// The regex of a pattern with its options, and what each match takes.
 ///
-/// It is refused as `RegexBuilder::build` refuses that pattern. Want of memory is `Error::Memory`.
+/// It is refused as `RegexBuilder::build` refuses that pattern. Out of memory is `Error::Memory`.
 pub fn matcher_of(alloc: Global, pattern: &str, options: PatternOptions) -> Result<Matcher, Error>
     ensures { MatchResult result
         (IsMatcherOf (asked options pattern.now) (options_for options))

@@ -47,7 +47,7 @@ impl<'t> Part<'t> {
         }
     }
 
-    /// The first of these lines, so many, and the others.
+    /// The first `count` of these lines, and the others.
     fn split(self, count: usize) -> (Part<'t>, Part<'t>) {
         let place = self
             .text

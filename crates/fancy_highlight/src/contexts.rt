@@ -25,7 +25,7 @@ fn push_reversed(todo: &mut Vec<usize>, numbers: &[usize]) -> Result<(), AllocEr
 }
 
 impl Rules {
-    /// A bound on how many rules the walk of a context comes to: each list is gone through once.
+    /// A bound on how many rules the walk of a context visits: each list is gone through once.
     fn most_steps(&self) -> usize {
         let mut count = self.patterns.len();
         for rule in &self.rules {

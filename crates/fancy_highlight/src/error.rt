@@ -10,7 +10,7 @@ use std::fmt;
 /// What is wrong with a part of the rules.
 #[derive(Debug, Drop)]
 pub enum Fault {
-    /// Something else is wanted there.
+    /// Something else is expected there.
     Wanted(&'static str),
     /// The repository has no rule of this name.
     NoSuchRule,
@@ -27,7 +27,7 @@ pub enum GrammarError {
     NoObject(&'static str),
     /// A part of the rules, by its path as a JSON pointer, and what is wrong with it.
     At { path: String, fault: Fault },
-    /// A request for memory was refused.
+    /// Out of memory: an allocation failed.
     Memory,
 }
 
@@ -70,7 +70,7 @@ impl fmt::Display for GrammarError {
                 write!(f, "expected an object with `patterns`, found {found}")
             }
             GrammarError::At { path, fault } => write!(f, "{path}: {fault}"),
-            GrammarError::Memory => write!(f, "memory ran out"),
+            GrammarError::Memory => write!(f, "out of memory"),
         }
     }
 }

@@ -8,7 +8,7 @@ use crate::grammar::{Context, Region, Tried};
 use crate::omitted::Omitted;
 use std::alloc::{AllocError, Global};
 
-/// Where the end stands in the order, and the number of its tree.
+/// The place of the end in the order, and the number of its tree.
 #[derive(Clone, Copy)]
 pub(crate) enum EndPlace {
     Nowhere,
@@ -98,7 +98,7 @@ impl<'g> Frame<'g> {
         Ok(order)
     }
 
-    /// What a match is of whose tree stands at this place of the order.
+    /// What a match is of, whose tree is at this place of the order.
     pub(crate) fn role(&self, index: usize) -> Option<Role>
         ensures { result ≡ role_in self.now.end self.now.context.now.rules.items index }
     {

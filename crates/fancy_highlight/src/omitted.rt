@@ -21,7 +21,7 @@ pub(crate) struct Omitted<'t> {
 }
 
 impl<'t> Omitted<'t> {
-    /// None of so many rules is left out.
+    /// None of this number of rules is left out.
     pub(crate) fn new(alloc: Global, text: &'t str, rules: usize) -> Result<Omitted<'t>, AllocError>
         ensures { IfOk result (λ omitted. omitted.text.now ≡ text.now) }
     {

@@ -13,7 +13,7 @@ use serde_json::Value;
 use std::alloc::{AllocError, Global};
 use std::collections::BTreeMap;
 
-/// How deep rules may stand in one another: deeper than JSON nests that can be read.
+/// How deep rules may nest in one another: deeper than JSON nests that can be read.
 const MOST_DEPTH: usize = 250;
 
 /// Reads rules: those that are read so far, and the scanner of their patterns.
@@ -130,7 +130,7 @@ impl Reader {
         }
     }
 
-    /// Adds the pattern to the scanner, and answers the number of its tree.
+    /// Adds the pattern to the scanner, and returns the number of its tree.
     fn add_pattern(&mut self, pattern: &str) -> Result<usize, Error> {
         let tree = compile(self.alloc, pattern)?;
         self.scanner.push(tree)?;

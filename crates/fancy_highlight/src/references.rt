@@ -8,7 +8,7 @@ use fancy_matches::found::Captures;
 use fancy_pattern::escape::escape;
 use std::alloc::{AllocError, Global};
 
-/// What stands in for a reference while rules are read: as many bytes as the reference, so that faults keep their place.
+/// What replaces a reference while rules are read: as many bytes as the reference, so that faults keep their place.
 const SAMPLE: &str = "é";
 
 /// The group that a digit names.
@@ -98,7 +98,7 @@ impl Took<'_, '_> {
         }
     }
 
-    /// Adds the next character of an end, which a backslash may stand before; answers whether it is a backslash that
+    /// Adds the next character of an end, which a backslash may precede; returns whether it is a backslash that
     /// stands before the next one.
     fn push(
         &self,

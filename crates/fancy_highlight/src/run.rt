@@ -50,7 +50,7 @@ struct Found<'t> {
     end: Option<usize>,
 }
 
-/// What a search comes to.
+/// What a search gives.
 #[derive(Clone, Copy)]
 enum Next<'t> {
     Found(Found<'t>),
@@ -106,7 +106,7 @@ impl<'g, 'r, 't> Run<'g, 'r, 't> {
         self.omitted.push(report)
     }
 
-    /// What a match is of whose tree stands at this place of the order.
+    /// What a match is of, whose tree is at this place of the order.
     fn role(&self, index: usize) -> Option<Role> {
         self.top.role(index)
     }
@@ -151,7 +151,7 @@ impl<'g, 'r, 't> Run<'g, 'r, 't> {
         }
     }
 
-    /// What a match is of, whose tree stands in this order.
+    /// What a match is of, whose tree is in this order.
     fn next_of(
         &mut self,
         order: &[usize],
@@ -345,7 +345,7 @@ impl<'g, 'r, 't> Run<'g, 'r, 't> {
         self.entered_here >= self.grammar.rules.len() || self.is_entered_at(region.begin, at)
     }
 
-    /// Writes a begin, and opens its region; but not where it takes nothing and is open there already.
+    /// Writes a begin, and opens its region, unless it is empty and is open there already.
     fn begin(
         &mut self,
         rule: usize,
@@ -425,7 +425,7 @@ impl<'g, 'r, 't> Run<'g, 'r, 't> {
         }
     }
 
-    /// Goes on past the next match, or one character where it takes nothing and neither opens nor closes a region.
+    /// Goes on after the next match, or by one character if it is empty and neither opens nor closes a region.
     fn step(&mut self) -> Result<(), AllocError>
         requires { self.old.writer.at < length self.old.writer.text.now }
         ensures grammar { self.new.grammar.now ≡ self.old.grammar.now }

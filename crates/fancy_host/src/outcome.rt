@@ -1,4 +1,4 @@
-//! What a host is answered: a code with its details, and what goes with it into the host's memory.
+//! What a call returns to a host: a code with its details, and what goes with it into the host's memory.
 
 ghost use Rattle.std.specs.Prelude.{◌≡◌, length};
 ghost use Rattle.fancy_host.specs.Codes as codes;
@@ -190,7 +190,7 @@ fn name_of(code: u32) -> &'static str
     }
 }
 
-/// Writes the name of a code, and answers how many bytes it has.
+/// Writes the name of a code, and returns how many bytes it has.
 pub fn write_name(code: u32, room: &mut [u8]) -> usize
     ensures length { result ≡ length (codes.name_of code) }
     ensures name { room.new ≡ hosted.ended (codes.name_of code) room.old }
@@ -241,7 +241,7 @@ impl FancyOutcome {
         }
     }
 
-    /// The outcome with so many.
+    /// The outcome with this count.
     pub fn with_count(self, count: usize) -> FancyOutcome
         ensures { result ≡ hosted.with_count count self }
     {
@@ -265,7 +265,7 @@ impl FancyOutcome {
         FancyOutcome::coded(UNFIT)
     }
 
-    /// A tree with so many groups was compiled.
+    /// A tree with this many groups was compiled.
     pub fn compiled(groups: usize) -> FancyOutcome
         ensures { result ≡ hosted.compiled groups }
     {
@@ -316,7 +316,7 @@ impl FancyOutcome {
         }
     }
 
-    /// Whether the answer of a search, whose delegates passed this limit or none, is a match.
+    /// Whether the result of a search, whose delegates exceeded this limit or none, is a match.
     pub fn of_found(
         answer: &Result<Option<Vec<usize>>, Error>,
         passed: Option<SearchLimit>,
@@ -330,7 +330,7 @@ impl FancyOutcome {
         }
     }
 
-    /// The answer of a search, whose delegates passed this limit or none.
+    /// The outcome of a search, whose delegates exceeded this limit or none.
     pub fn of_answer(
         text: &[u8],
         answer: &Result<Option<Vec<usize>>, Error>,

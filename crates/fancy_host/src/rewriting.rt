@@ -24,7 +24,7 @@ use fancy_search::search::Compiled;
 use fancy_vm::vm::{RunOptions, Scratch};
 use std::alloc::{AllocError, Global};
 
-/// The text with its first `limit` matches replaced, all of them where that is 0, of which so many bytes are kept.
+/// The text with its first `limit` matches replaced, all of them if that is 0, of which this many bytes are kept.
 pub fn rewrite<R: Replacer>(
     alloc: Global,
     compiled: &Compiled,
@@ -64,7 +64,7 @@ pub fn rewrite<R: Replacer>(
     Ok(with_rest(out, &text[from..])?)
 }
 
-/// How many matches are replaced at most; no text has so many where 0 says all.
+/// How many matches are replaced at most; for 0 more than any text has.
 fn most_of(limit: usize) -> usize
     ensures { result ≡ rewritten.most_of limit }
 {
@@ -104,7 +104,7 @@ pub fn text_room(room: &[u8]) -> usize
     room.len().saturating_sub(1)
 }
 
-/// Writes a text of which so many bytes are kept, with a zero at its end, and says how many bytes all of it has, and
+/// Writes a text of which this many bytes are kept, with a zero at its end, and says how many bytes all of it has, and
 /// whether there was room for them.
 pub fn write_kept(text: &BoundedText, room: &mut [u8]) -> FancyOutcome
     ensures { (new : List ℕ) → Holds text.now (rewritten.text_room room.old) new

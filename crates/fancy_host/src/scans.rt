@@ -1,4 +1,4 @@
-//! Many patterns and one text: what a host is told of a scan from match to match.
+//! Many patterns and one text: what a host learns of a scan from match to match.
 
 ghost use Rattle.std.specs.Prelude.{◌≡◌, ◌≤◌, ◌+◌, ◌*◌, ◌++◌, ◌∷◌, [], ℕ, IsTrue, List, MatchResult, length, min};
 ghost use Rattle.fancy_meaning.specs.Answer.{span_numbers};
@@ -83,7 +83,7 @@ pub fn compile_rule(
     }
 }
 
-/// How many numbers a row has: which pattern, which one passed a limit, and the code of that, and so many groups.
+/// How many numbers a row has: which pattern, which one exceeded a limit, the code of that, and this many groups.
 fn width_of(groups: usize) -> usize
     ensures { result ≡ min usize_max (2 * groups + 3) }
 {
@@ -102,7 +102,7 @@ fn next_place(text: &[u8], pos: usize, start: usize, end: usize) -> usize
     }
 }
 
-/// What is told of a pattern that passed a limit: its number and the code, or that there is none.
+/// What is reported of a pattern that exceeded a limit: its number and the code, or that there is none.
 fn stopped_numbers(stopped: Option<Stopped>) -> (usize, usize)
     ensures { result ≡ scanned.stopped_numbers stopped }
 {
@@ -136,7 +136,7 @@ fn span_at(captures: &Captures<'_>, group: usize) -> (usize, usize)
     }
 }
 
-/// Writes start and end of the first groups of a match, so many, behind what was written.
+/// Writes start and end of the first groups of a match, this many, after what was written.
 fn write_groups(captures: &Captures<'_>, groups: usize, at: usize, room: &mut [usize])
     requires { at + 2 * groups ≤ length room.old }
     ensures written { (done old : List ℕ) → room.old ≡ over done old → length done ≡ at
@@ -172,7 +172,7 @@ fn write_row(
     write_groups(captures, groups, at + 3, room);
 }
 
-/// Writes the rows of the matches from this place on, as many as there is room for, and says how many. The scan then
+/// Writes the rows of the matches from this place on, while there is room, and says how many. The scan then
 /// stands after them.
 fn write_rows(
     scan: &mut ScanText<'_, '_>,
@@ -211,7 +211,7 @@ fn write_rows(
     FancyOutcome::coded(OK).with_count(count)
 }
 
-/// Writes the rows of the matches of these patterns in a text, from a place on, as many as there is room for.
+/// Writes the rows of the matches of these patterns in a text, from a place on, while there is room.
 pub fn scan(
     scanner: &mut Scanner,
     text: &str,

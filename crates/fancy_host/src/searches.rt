@@ -170,7 +170,7 @@ impl Searcher {
             .find(alloc, text, options, spans, &mut self.scratch)
     }
 
-    /// Writes the spans of the matches of the list that stands so, as many as there is room for; it then stands after
+    /// Writes the spans of the next matches of a list, while there is room; `standing` then is after
     /// them.
     pub fn find_all(
         &mut self,

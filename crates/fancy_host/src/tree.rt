@@ -122,7 +122,7 @@ impl CompiledTree {
         FancyOutcome::of_found(&found, scratch.passed())
     }
 
-    /// Writes the rows of the matches of the list that stands so, as many as there is room for.
+    /// Writes the rows of the next matches of a list, while there is room.
     fn write_rows<'t, F: Row<'t>>(
         &self,
         alloc: Global,
@@ -169,7 +169,7 @@ impl CompiledTree {
         FancyOutcome::coded(OK).with_count(count)
     }
 
-    /// Writes the rows of the matches of the list that stands so, of such a width, as many as there is room for; it then
+    /// Writes the rows of the next matches of a list, of this width, while there is room; it then
     /// stands after them.
     fn list<'t, F: Row<'t>>(
         &self,
@@ -205,7 +205,7 @@ impl CompiledTree {
         outcome
     }
 
-    /// Writes the spans of the matches of the list that stands so, as many as there is room for; it then stands after
+    /// Writes the spans of the next matches of a list, while there is room; it then is after
     /// them.
     pub fn find_all(
         &self,
@@ -231,7 +231,7 @@ impl CompiledTree {
         self.list::<Match<'_>>(alloc, text, options, 2, standing, spans, scratch)
     }
 
-    /// Writes the spans of all groups of these matches, so many numbers for each match; the list then stands after them.
+    /// Writes the spans of all groups of these matches, this many numbers for each; the list then is after them.
     pub fn captures_all(
         &self,
         alloc: Global,
@@ -258,7 +258,7 @@ impl CompiledTree {
     }
 
     /// The text with its first `limit` matches replaced, all of them where that is 0: by this text as it stands, or by
-    /// what it says as a template. So many bytes of it are kept.
+    /// what it says as a template. This many bytes of it are kept.
     fn replaced(
         &self,
         alloc: Global,

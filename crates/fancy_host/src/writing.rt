@@ -21,7 +21,7 @@ pub fn write_from<T: Copy>(new: &[T], at: usize, room: &mut [T])
     write_over(new, rest);
 }
 
-/// Writes a text, as far as there is room for it, with a zero at its end, and answers how many bytes all of it has.
+/// Writes a text, as far as there is room for it, with a zero at its end, and returns how many bytes all of it has.
 pub fn write_text(text: &[u8], room: &mut [u8]) -> usize
     ensures length { result ≡ length text.now }
     ensures text { room.new ≡ hosted.ended text.now room.old }

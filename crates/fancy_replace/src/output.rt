@@ -10,7 +10,7 @@ pub trait Output {
     // With room for so many bytes it has this text: what was written, as far as there is room.
     ghost holds: { Self → ℕ → List ℕ → Type 0 };
 
-    /// Appends a piece. The error is want of memory, and after it a part of the piece may stand there.
+    /// Appends a piece. The error is `AllocError`, and after it a part of the piece may be there.
     fn append(&mut self, piece: &str) -> Result<(), AllocError>
         ensures { OnOk result ((room : ℕ) (text : List ℕ)
             → holds self.old room text
@@ -41,7 +41,7 @@ pub struct BoundedText {
 impl BoundedText {
     ghost use Rattle.fancy_replace.specs.Outputs.{Holds, count_of, kept_of, room_of};
 
-    /// An empty text with room for so many bytes.
+    /// An empty text with room for this many bytes.
     pub fn new(alloc: Global, room: usize) -> BoundedText
         ensures { Holds result room [] }
     {
@@ -52,7 +52,7 @@ impl BoundedText {
         }
     }
 
-    /// What is kept: the first bytes of the text, as many as there is room for.
+    /// What is kept: the first bytes of the text, as far as there is room.
     pub fn kept(&self) -> &[u8]
         ensures { result.now ≡ kept_of self.now }
     {

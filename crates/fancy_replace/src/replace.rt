@@ -43,7 +43,7 @@ pub fn replace_all<'t, R: Replacer>(
 /// The text with its first `limit` matches replaced, all of them where that is 0, and the text itself where there is
 /// none.
 ///
-/// A limit that a search passes is answered by its name. Want of memory is `Error::Memory`.
+/// A limit that a search exceeds is returned by its name. Out of memory is `Error::Memory`.
 pub fn replacen<'t, R: Replacer>(
     alloc: Global,
     regex: &mut Regex,
@@ -65,7 +65,7 @@ pub fn replacen<'t, R: Replacer>(
 /// Appends the text with its first `limit` matches replaced, all of them where that is 0. False is answered, and nothing
 /// is appended, where there is none.
 ///
-/// Errors are those of `replacen`. After one a part of the text may stand there.
+/// Errors are those of `replacen`. After one a part of the text may be there.
 pub fn replace_into<R: Replacer, O: Output>(
     regex: &mut Regex,
     text: &str,

@@ -14,7 +14,7 @@ pub trait Replacer {
     // What it writes, by the text and the start and end of each group of the match.
     ghost replacement_text: { Self → List ℕ → List ℕ → List ℕ };
 
-    /// Appends what is written in the place of a match with these groups. After an error a part of it may stand there.
+    /// Appends what replaces a match with these groups. After an error a part of it may be there.
     fn replace_append<O: Output>(
         &self,
         captures: &Captures<'_>,

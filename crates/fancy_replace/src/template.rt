@@ -46,7 +46,7 @@ impl Template {
     /// Reads a text. Each name comes with the numbers of its groups, in the order in which they are tried, as in
     /// `named_groups` of an `ExprTree`. They are looked up here, so the template serves matches of that tree alone.
     ///
-    /// Every text is a template, so the only error is want of memory. The time is linear in the length of the text,
+    /// Every text is a template, so the only error is `AllocError`. The time is linear in the length of the text,
     /// but for the look-up of each name.
     pub fn new(
         alloc: Global,

@@ -19,7 +19,7 @@ pub(crate) enum Token<'t> {
 pub(crate) struct Tokens<'t> {
     /// What is still to be read.
     rest: &'t str,
-    /// Whether a `}` may stand in it. Once a search for one has failed none is made again.
+    /// Whether a `}` may be in it. Once a search for one has failed none is made again.
     may_close: bool,
     ghost closing: { may_close ≡ false → list_any is_closing rest.now ≡ false },
 }
@@ -58,7 +58,7 @@ impl<'t> Tokens<'t> {
         Token::Reference(word)
     }
 
-    /// What stands in braces at the front, which are passed over; none, where no braces stand there that are closed.
+    /// What is in braces at the front, which are passed over; none, if no braces are there that are closed.
     fn name_in_braces(&mut self) -> Option<&'t str>
         ensures { TakesBraces (text_left self.old) (option_map (λ name. name.now) result)
             (text_left self.new) }

@@ -16,11 +16,11 @@ use std::alloc::AllocError;
 
 impl<'t> ScanText<'_, 't> {
     /// The match that begins first, of the first matches of the trees with these numbers from this place on, a byte of the
-    /// text; of several that begin there that of the number that stands first in `order`. What is told has the index in
+    /// text; of several that begin there that of the number that stands first in `order`. The result has the index in
     /// `order`, so `captures(order[index])` has the groups. A number that no tree has is passed over.
     ///
-    /// A tree whose search passes a limit does not hide the matches of the others: the first such one is told beside
-    /// them. Want of memory is `Error::Memory`.
+    /// A tree whose search exceeds a limit does not hide the matches of the others: the first such one is reported beside
+    /// them. Out of memory is `Error::Memory`.
     pub fn find_among(&mut self, order: &[usize], pos: usize) -> Result<ScanStep<'t>, Error>
         requires { IsTrue (places.is_place (text_of self.old) pos) }
         ensures promise { (rules picked : List Rule)

@@ -1,4 +1,4 @@
-//! Which answers of a search for a tree hold from later places on too.
+//! Which results of a search for a tree hold from later places on too.
 
 ghost use Rattle.std.specs.Prelude.{◌≡◌, ◌||◌};
 ghost use Rattle.fancy_meaning.specs.Premises.{plan};
@@ -11,7 +11,7 @@ use crate::sought::{Sought, has_sought};
 use fancy_expr::expr::ExprTree;
 use fancy_search::search::SearchOptions;
 
-/// Which answers of a search for a tree hold from later places on too.
+/// Which results of a search for a tree hold from later places on too.
 #[derive(Clone, Copy, Debug)]
 pub(crate) enum Lasting {
     /// None: a `\G` asks where the search began, or one start alone is tried; or nothing is known of the tree.

@@ -35,7 +35,7 @@ pub struct ScanStep<'t> {
     /// The match that begins first, of the first matches of the trees that answered; of several that begin there that of
     /// the tree that was added first. `ScanText::captures` has its groups.
     pub found: Option<TreeMatch<'t>>,
-    /// The first tree whose search passed a limit, if there is one.
+    /// The first tree whose search exceeded a limit, if there is one.
     pub stopped: Option<Stopped>,
 }
 
@@ -56,8 +56,8 @@ impl<'r, 't> ScanText<'r, 't> {
     /// The match that begins first, of the first matches of all trees from this place on, a byte of the text; of several
     /// that begin there that of the tree that was added first. It is what `Scanner::find_from` finds.
     ///
-    /// A tree whose search passes a limit does not hide the matches of the others: the first such tree is told beside
-    /// them. Want of memory is `Error::Memory`.
+    /// A tree whose search exceeds a limit does not hide the matches of the others: the first such tree is reported beside
+    /// them. Out of memory is `Error::Memory`.
     pub fn find_from(&mut self, pos: usize) -> Result<ScanStep<'t>, Error>
         requires { IsTrue (places.is_place (text_of self.old) pos) }
         ensures promise { (rules : List Rule)

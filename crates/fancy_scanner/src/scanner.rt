@@ -34,7 +34,7 @@ pub struct ScanMatch<'t> {
     pub captures: Captures<'t>,
 }
 
-/// A tree whose search passed a limit: whether it has a match is not known.
+/// A tree whose search exceeded a limit: whether it has a match is not known.
 #[derive(Clone, Copy, Debug, Drop)]
 pub struct Stopped {
     /// Which tree it is: how many were added before it.
@@ -48,7 +48,7 @@ pub struct Scan<'t> {
     /// The match that begins first, of the first matches of the trees that answered; of several that begin there that of
     /// the tree that was added first.
     pub found: Option<ScanMatch<'t>>,
-    /// The first tree whose search passed a limit, if there is one.
+    /// The first tree whose search exceeded a limit, if there is one.
     pub stopped: Option<Stopped>,
 }
 
@@ -80,7 +80,7 @@ impl Drop for ScanTree {
 impl ScanTree {
     /// Compiles the tree as `Regex::new` does it. A `ScanText` keeps what is found of it as long as it holds.
     ///
-    /// The tree is refused as `Regex::new` refuses it. Want of memory is `Error::Memory`.
+    /// The tree is refused as `Regex::new` refuses it. Out of memory is `Error::Memory`.
     pub fn new(
         alloc: Global,
         tree: &ExprTree,
@@ -102,7 +102,7 @@ impl ScanTree {
     }
 
     /// Each search for the tree may take so much, its delegates together; before, there is no such limit. A search that
-    /// passes one is told as stopped by it.
+    /// exceeds one is reported as stopped by it.
     pub fn limit(&mut self, limits: SearchLimits)
         ensures { (r : Rule) (text : List ℕ)
             → IsTreeOf r text self.old
@@ -136,7 +136,7 @@ impl Scanner {
         }
     }
 
-    /// One more tree, after the others. The only error is want of memory, which leaves the scanner as it was.
+    /// One more tree, after the others. The only error is `AllocError`, which leaves the scanner as it was.
     pub fn push(&mut self, tree: ScanTree) -> Result<(), AllocError>
         ensures ok { OnOk result ((text : List ℕ) (rules : List Rule) (r : Rule)
             → IsScannerOf rules text self.old → IsTreeOf r text tree
@@ -149,7 +149,7 @@ impl Scanner {
     }
 
     /// One more tree, after the others. Of a tree that comes compiled, nothing is kept in a `ScanText`; `add_tree` takes
-    /// one of which it may be. The only error is want of memory, which leaves the scanner as it was.
+    /// one of which it may be. The only error is `AllocError`, which leaves the scanner as it was.
     pub fn add(&mut self, regex: Regex) -> Result<(), AllocError>
         ensures ok { OnOk result ((text : List ℕ) (rules : List Rule) (i : Input)
             (o : plain.RunOptions)
@@ -170,7 +170,7 @@ impl Scanner {
     /// One more tree, after the others, compiled as `Regex::new` does it. A `ScanText` keeps what is found of it as long
     /// as it holds.
     ///
-    /// The tree is refused as `Regex::new` refuses it. Want of memory is `Error::Memory`. After an error the scanner is as
+    /// The tree is refused as `Regex::new` refuses it. Out of memory is `Error::Memory`. After an error the scanner is as
     /// it was.
     pub fn add_tree(
         &mut self,
@@ -204,7 +204,7 @@ impl Scanner {
         self.trees.len()
     }
 
-    /// Which answers of the tree with this number last.
+    /// Which results of the tree with this number last.
     pub(crate) fn lasting(&self, index: usize) -> Lasting
         requires { index < length (trees_of self.now) }
         ensures { Some result ≡ lasting_at self.now index }
@@ -242,8 +242,8 @@ impl Scanner {
     /// The match that begins first, of the first matches of all trees from this place on, a byte of the text; of several
     /// that begin there that of the tree that was added first.
     ///
-    /// A tree whose search passes a limit does not hide the matches of the others: the first such tree is told beside
-    /// them. Want of memory is `Error::Memory`. Each tree is searched for once, as far as the text goes; `scan` keeps
+    /// A tree whose search exceeds a limit does not hide the matches of the others: the first such tree is reported beside
+    /// them. Out of memory is `Error::Memory`. Each tree is searched for once, as far as the text goes; `scan` keeps
     /// what is found from one place to the next.
     pub fn find_from<'t>(&mut self, text: &'t str, pos: usize) -> Result<Scan<'t>, Error>
         requires { IsTrue (places.is_place text.now pos) }
