@@ -29,7 +29,7 @@ fn words_of(alloc: Global, line: &str) -> Result<Vec<String>, AllocError> {
     Ok(words)
 }
 
-/// Writes the line, and then what it comes to, with its status where that is not 0.
+/// Writes the line, and then its result, with the status if that is not 0.
 fn run_line(rt: &HostRuntime, line: &str) -> Result<(), AllocError> {
     let words = words_of(rt.alloc(), line)?;
     let _unwritten = println!(rt; "$ fancygrep {line}");

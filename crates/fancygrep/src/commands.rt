@@ -93,19 +93,19 @@ static OPTIONS: [(&str, Option<char>, Kind, &str); 23] = [
         "after-context",
         Some('A'),
         Kind::Number,
-        "Write so many lines after each",
+        "Write N lines after each",
     ),
     (
         "before-context",
         Some('B'),
         Kind::Number,
-        "Write so many lines before each",
+        "Write N lines before each",
     ),
     (
         "context",
         Some('C'),
         Kind::Number,
-        "Write so many lines before and after each",
+        "Write N lines before and after each",
     ),
     (
         "replace",

@@ -97,7 +97,7 @@ fn paths<'a>(alloc: Global, matches: &ArgMatches<'a>) -> Result<Vec<&'a str>, Al
     Ok(paths)
 }
 
-/// Searches as the words ask, and answers the status.
+/// Searches as the words ask, and returns the status.
 fn search_by(rt: &HostRuntime, matches: &ArgMatches<'_>) -> Result<u8, AllocError> {
     let paths = paths(rt.alloc(), matches)?;
     let is_recursive = matches.get_flag("recursive");

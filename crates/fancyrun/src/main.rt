@@ -49,7 +49,7 @@ fn say(rt: &HostRuntime, text: &[u8], status: u8) -> u8 {
     }
 }
 
-/// The text that a single word asks for. No valid search has one word alone.
+/// The text that a single word requests. No valid search has one word alone.
 fn asked_text(words: &[String]) -> Option<&'static str> {
     match words {
         [word] => match word.as_str() {

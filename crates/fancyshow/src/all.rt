@@ -45,7 +45,7 @@ impl Marker<'_> {
         self.left = left;
     }
 
-    /// Whether a match stands in the bytes from `start` to `end`, or at one of them.
+    /// Whether a match is in the bytes from `start` to `end`, or at one of them.
     fn is_touched(&self, start: usize, end: usize) -> bool {
         match self.left.first() {
             Some((first, last)) => *first <= end && (start < *last || start <= *first),
@@ -53,7 +53,7 @@ impl Marker<'_> {
         }
     }
 
-    /// The mark under a character at this byte: `^` where a match begins that takes something, `~` further on in it,
+    /// The mark under a character at this byte: `^` where a match begins that is not empty, `~` further on in it,
     /// `|` where an empty one stands.
     fn mark(&self, at: usize) -> char {
         match self.left.first() {
@@ -64,7 +64,7 @@ impl Marker<'_> {
         }
     }
 
-    /// The marks under this character, which stands at this byte.
+    /// The marks under this character, which is at this byte.
     fn push_mark(&mut self, marks: &mut String, at: usize, c: char) -> Result<(), AllocError> {
         self.pass_to(at);
         let mark = self.mark(at);
@@ -85,7 +85,7 @@ impl Marker<'_> {
         self.out.push_str(marks.as_str().trim_end())
     }
 
-    /// The line with its number and its marks, where a match stands in it.
+    /// The line with its number and its marks, if a match is in it.
     fn push_line(&mut self, number: usize, line: &str, start: usize) -> Result<(), AllocError> {
         self.pass_before(start);
         if !self.is_touched(start, start.saturating_add(line.len())) {

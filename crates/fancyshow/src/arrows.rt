@@ -126,7 +126,7 @@ fn push_lanes(
     Ok(())
 }
 
-/// Gives each long arrow that leads back, or each that leads on, a lane, and none to two that stand beside each other.
+/// Gives each long arrow that leads back, or each that leads on, a lane, and not the same to two that overlap.
 pub fn lanes(alloc: Global, arrows: &[Arrow], are_back: bool) -> Result<Vec<Lane>, AllocError> {
     let sorted = sorted(alloc, arrows, are_back)?;
     let mut ends = Vec::new(alloc);

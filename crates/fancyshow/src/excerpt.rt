@@ -72,12 +72,12 @@ pub fn push_to_column(out: &mut String, start: usize, column: usize) -> Result<(
     push_times(out, ' ', column.saturating_sub(written).max(2))
 }
 
-/// So many characters are shown before a place in a long line, and so many from there on.
+/// How many characters are shown before a place in a long line, and again from there on.
 const BEFORE: usize = 50;
 
 const BEHIND: usize = 30;
 
-/// The last characters of the text, so many at most, and whether there are more.
+/// The last characters of the text, `most` of them, and whether there are more.
 pub fn tail(text: &str, most: usize) -> (&str, bool) {
     let count = text.chars().count();
     let first = count.saturating_sub(most);
@@ -88,7 +88,7 @@ pub fn tail(text: &str, most: usize) -> (&str, bool) {
     (text.get(cut..).unwrap_or(""), first > 0)
 }
 
-/// The first characters of the text, so many at most, and whether there are more.
+/// The first characters of the text, `most` of them, and whether there are more.
 pub fn head(text: &str, most: usize) -> (&str, bool) {
     match text.char_indices().nth(most) {
         Some((cut, _)) => (text.get(..cut).unwrap_or(""), true),

@@ -41,7 +41,7 @@ impl<'a> Finder<'_, 'a> {
         }
     }
 
-    /// Notes the node and those below it, so many levels deep, and returns the number of the next group.
+    /// Notes the node and those below it, this many levels deep, and returns the number of the next group.
     fn note_all(&mut self, node: Node<'_, 'a>, levels: usize) -> usize {
         if levels == 0 {
             return node.group;

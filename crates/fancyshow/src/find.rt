@@ -102,7 +102,7 @@ pub fn push_match(out: &mut String, found: &Match<'_>) -> Result<(), AllocError>
     out.push('\n')
 }
 
-/// Writes each group of the match on a line of its own, after so many spaces.
+/// Writes each group of the match on a line of its own, after this many spaces.
 pub fn push_groups(
     out: &mut String,
     captures: &Captures<'_>,
@@ -147,7 +147,7 @@ pub fn captures<'t>(
     }
 }
 
-/// Writes the match, and then each of its groups after so many spaces.
+/// Writes the match, and then each of its groups after this many spaces.
 pub fn push_found(
     out: &mut String,
     captures: &Captures<'_>,

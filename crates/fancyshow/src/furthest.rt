@@ -5,7 +5,7 @@ use fancy_expr::error::Error;
 use fancy_vm::vm::{Insn, Prog, Progress, RunOptions, Stepper};
 use std::alloc::Global;
 
-/// So many leaves are told of those that fail in one place.
+/// How many leaves are reported of those that fail in one place.
 const MOST_WANTED: usize = 8;
 
 /// The attempt that gets furthest in the tree, and of several the one that matches most: where it begins, how far it gets,
@@ -16,7 +16,7 @@ pub struct Furthest {
     pub at: usize,
     /// The depth of the deepest of these leaves.
     depth: usize,
-    /// The marks, as many as are counted.
+    /// The marks that are counted.
     marks: [usize; MOST_WANTED],
     count: usize,
     /// The last of them in the tree.
@@ -137,7 +137,7 @@ impl Watch<'_> {
         place <= 3
     }
 
-    /// Once an instruction was executed, with so many branches left: the leaf failed if one from before it was taken.
+    /// After an instruction was executed, with this many branches left: the leaf failed if one from before it was taken.
     fn note(&mut self, branches: Option<usize>) {
         let Some(leaf) = self.leaf else {
             return;
@@ -151,7 +151,7 @@ impl Watch<'_> {
         }
     }
 
-    /// Watches up to so many instructions.
+    /// Watches up to this many instructions.
     fn run(&mut self, stepper: Stepper<'_>, most: u64) -> Result<(), Error> {
         let mut stepper = stepper;
         for _ in 0..most {
@@ -172,7 +172,7 @@ impl Watch<'_> {
     }
 }
 
-/// The attempt of the run that gets furthest, of those in so many steps; none if the run cannot begin.
+/// The attempt of the run that gets furthest, of those in this many steps; none if the run cannot begin.
 pub fn watch_run(
     alloc: Global,
     prog: &Prog,

@@ -100,7 +100,7 @@ fn styled(
     Ok(out)
 }
 
-/// The text as the form asks for.
+/// The text in the form.
 fn shown(
     alloc: Global,
     form: Form,
@@ -118,7 +118,7 @@ fn shown(
     }
 }
 
-/// The text as the form asks for, with a warning of each rule that is left out.
+/// The text in the form, with a warning of each rule that is left out.
 fn highlighted(
     alloc: Global,
     path: &str,

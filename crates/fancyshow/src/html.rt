@@ -29,7 +29,7 @@ pre { font-family: monospace; color: #24292f; background: #ffffff; }
 <body>
 <pre>";
 
-/// What stands behind them.
+/// What follows them.
 pub const FOOT: &str = "</pre>
 </body>
 </html>

@@ -101,7 +101,7 @@ fn words(insn: &Insn) -> &'static str {
     }
 }
 
-/// Writes the instruction, and in a column behind it the group that it names.
+/// Writes the instruction, and in a column after it the group that it names.
 pub fn push_noted(
     alloc: Global,
     out: &mut String,
@@ -129,7 +129,7 @@ fn push_words(out: &mut String, start: usize, words: &str) -> Result<(), AllocEr
     out.push_str(words)
 }
 
-/// What stands in the box of an instruction in a picture: its place, and itself.
+/// What is in the box of an instruction in a picture: its place, and itself.
 pub fn label(alloc: Global, place: usize, insn: &Insn) -> Result<String, AllocError> {
     let mut label = format!(in alloc; "{place} ")?;
     push_insn(alloc, &mut label, insn)?;

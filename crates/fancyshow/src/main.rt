@@ -56,7 +56,7 @@ fn has_colours(rt: &HostRuntime) -> bool {
     rt.stdout().is_terminal() && env::var(rt, "NO_COLOR").is_err() && !is_dumb(rt)
 }
 
-/// Writes what a command line came to, and answers the status: 3 where a write fails.
+/// Writes the result of a command line, and returns the status: 3 if a write fails.
 fn write(rt: &HostRuntime, outcome: &Outcome) -> u8 {
     let out = rt.stdout().write_all(outcome.out.as_bytes());
     let err = rt.stderr().write_all(outcome.err.as_bytes());

@@ -1,7 +1,7 @@
-//! A tree with marks before its leaves, by which a run of its program tells where it stands.
+//! A tree with marks before its leaves, by which a run of its program says where it is.
 //!
-//! A mark is `(nahead (cat (verb fail) "c"))`: it holds everywhere and takes nothing, and its character is a number that
-//! stands in the program. A node with a mark is compiled by itself.
+//! A mark is `(nahead (cat (verb fail) "c"))`: it holds everywhere and matches the empty string, and its character is a number that
+//! is in the program. A node with a mark is compiled by itself.
 
 use crate::nodes::{has_brackets, push_head, push_unquoted};
 use fancy_expr::expr::{Absent, Expr};
@@ -12,7 +12,7 @@ use std::alloc::{AllocError, Global};
 /// The character of mark 0, the first of those for private use in plane 15.
 const FIRST: usize = 0xf0000;
 
-/// So many leaves have marks.
+/// How many leaves have marks.
 const MOST_LEAVES: usize = 50_000;
 
 /// How deep the nodes are that are written.
@@ -54,7 +54,7 @@ fn is_leaf(expr: &Expr) -> bool {
     }
 }
 
-/// Whether what stands in this place of a node has marks.
+/// Whether what is in this place of a node has marks.
 fn has_marks_below(expr: &Expr, i: usize) -> bool {
     match expr {
         Expr::Conditional { .. } => i > 0,
@@ -122,7 +122,7 @@ impl<'e> Marked<'e> {
         Ok(true)
     }
 
-    /// Begins a sequence with the mark that the node has, if it has one. Answers whether it did.
+    /// Begins a sequence with the mark that the node has, if it has one. Returns whether it did.
     fn open(&mut self, expr: &'e Expr) -> Result<bool, AllocError> {
         if is_leaf(expr) && self.leaves.len() < MOST_LEAVES {
             let number = self.add_leaf(expr)?;
@@ -134,7 +134,7 @@ impl<'e> Marked<'e> {
         }
     }
 
-    /// Writes the node and those below it, with marks where they are asked for. Past so many levels nothing is written.
+    /// Writes the node and those below it, with marks where they are needed. Beyond this many levels nothing is written.
     fn push_node(
         &mut self,
         expr: &'e Expr,
@@ -200,7 +200,7 @@ impl<'e> Marked<'e> {
         }
     }
 
-    /// Writes the whole tree with marks, and mark 0 behind it.
+    /// Writes the whole tree with marks, and mark 0 after it.
     pub fn push_tree(&mut self, expr: &'e Expr) -> Result<(), AllocError> {
         self.text.push_str("(cat ")?;
         self.push_node(expr, true, MOST_LEVELS)?;

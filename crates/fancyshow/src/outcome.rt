@@ -1,4 +1,4 @@
-//! What a command line comes to, and what keeps it from an answer.
+//! What a command line gives, and what keeps it from an answer.
 
 ghost use Rattle.std.specs.Prelude.{◌≡◌};
 ghost use Rattle.fancyshow.specs.declared.outcome.Trouble.TheVariants.{Memory};
@@ -81,7 +81,7 @@ impl Outcome {
         })
     }
 
-    /// What the trouble comes to.
+    /// What the trouble gives.
     fn of_trouble(alloc: Global, trouble: Trouble) -> Result<Outcome, AllocError> {
         match trouble {
             Trouble::Help(out) => Ok(Outcome::answered(alloc, out)),
@@ -98,7 +98,7 @@ impl Outcome {
         }
     }
 
-    /// What an answer, or the trouble that there was, comes to.
+    /// What an answer, or the trouble that there was, gives.
     pub fn of(alloc: Global, answer: Result<String, Trouble>) -> Result<Outcome, AllocError> {
         match answer {
             Ok(out) => Ok(Outcome::answered(alloc, out)),

@@ -34,7 +34,7 @@ fn replaced_by(
     }
 }
 
-/// The digits that a text begins with, and the letters, digits and `_` behind them.
+/// The digits that a text begins with, and the letters, digits and `_` after them.
 fn split_name(text: &str) -> (&str, &str) {
     let mut digits: usize = 0;
     let mut end: usize = 0;
@@ -67,7 +67,7 @@ fn run_on(template: &str) -> Option<(&str, &str)> {
     None
 }
 
-/// The text where nothing is to be warned of: else that digits with letters behind them are a name.
+/// The text if nothing is to be warned of: else that digits with letters after them are a name.
 fn warned(alloc: Global, out: String, template: &str) -> Result<String, Trouble> {
     match run_on(template) {
         None => Ok(out),
@@ -78,7 +78,7 @@ fn warned(alloc: Global, out: String, template: &str) -> Result<String, Trouble>
     }
 }
 
-/// What is warned of where the rest stands behind the digits.
+/// What is warned of if the rest follows the digits.
 fn warning(alloc: Global, digits: &str, rest: &str) -> Result<String, AllocError> {
     format!(in alloc;
         "${digits}{rest} is the group with this name; ${{{digits}}}{rest} is group {digits}, and then {rest}"

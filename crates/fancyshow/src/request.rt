@@ -122,7 +122,7 @@ fn source_file<'a>(
     }
 }
 
-/// The source as it stands in a file or a word, and the word that is left for the text.
+/// The source as it is in a file or a word, and the word that is left for the text.
 fn read_source<'a>(
     rt: &HostRuntime,
     matches: &ArgMatches<'a>,
@@ -180,7 +180,7 @@ fn text(rt: &HostRuntime, matches: &ArgMatches<'_>, word: Option<&str>) -> Resul
     }
 }
 
-/// A text that no pattern stands beside.
+/// A text that no pattern is beside.
 pub fn text_alone(rt: &HostRuntime, matches: &ArgMatches<'_>) -> Result<String, Trouble> {
     text(rt, matches, matches.get_str("TEXT"))
 }

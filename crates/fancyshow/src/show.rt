@@ -1,4 +1,4 @@
-//! From the words of a command line to what it comes to.
+//! From the words of a command line to its result.
 
 use crate::all::all;
 use crate::batch::{push_outcome, words_of};
@@ -168,7 +168,7 @@ fn line_answer(rt: &HostRuntime, words: &[String]) -> Result<String, Trouble> {
     }
 }
 
-/// Writes a line of a batch, and what it comes to where it is a command line. Answers whether its status is not 0.
+/// Writes a line of a batch, and its result if it is a command line. Returns whether its status is not 0.
 fn push_answer(rt: &HostRuntime, out: &mut String, line: &str) -> Result<bool, AllocError> {
     if line.is_empty() || line.starts_with('#') {
         writeln!(out, "{line}")?;
@@ -180,7 +180,7 @@ fn push_answer(rt: &HostRuntime, out: &mut String, line: &str) -> Result<bool, A
     Ok(outcome.status != 0)
 }
 
-/// Writes each line with what it comes to. Answers whether one failed.
+/// Writes each line with its result. Returns whether one failed.
 fn push_answers(rt: &HostRuntime, out: &mut String, lines: &str) -> Result<bool, AllocError> {
     let mut has_failed = false;
     for line in lines.lines() {
@@ -189,7 +189,7 @@ fn push_answers(rt: &HostRuntime, out: &mut String, lines: &str) -> Result<bool,
     Ok(has_failed)
 }
 
-/// What each command line of a file comes to.
+/// What each command line of a file gives.
 fn batch(rt: &HostRuntime, matches: &ArgMatches<'_>) -> Result<String, Trouble> {
     let lines = match matches.get_str("FILE") {
         Some(path) => read_file(rt, path)?,

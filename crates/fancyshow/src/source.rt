@@ -65,7 +65,7 @@ fn tree_of_pattern(alloc: Global, pattern: &str, unicode: bool) -> Result<ExprTr
     }
 }
 
-/// Where the leaves of a pattern's tree stand in it, in bytes: one span for each leaf that is not empty, in order. A tree
+/// Where the leaves of a pattern's tree are in it, in bytes: one span for each leaf that is not empty, in order. A tree
 /// that was not read from a pattern has none.
 pub fn leaf_spans(alloc: Global, request: &Request) -> Result<Vec<Span>, AllocError> {
     if request.is_tree {

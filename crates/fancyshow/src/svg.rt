@@ -1,4 +1,4 @@
-//! A program as a picture: a box for each instruction, one below the other; arrows further on stand at the right, back
+//! A program as a picture: a box for each instruction, one below the other; arrows further on are at the right, back
 //! ones at the left, branches dashed; below, what the signs mean.
 
 use crate::arrows::{Arrow, Lane, arrows, lanes};
@@ -84,7 +84,7 @@ impl Boxes {
     }
 }
 
-/// Counts one end more at this box, and answers how many there were.
+/// Counts one end more at this box, and returns how many there were.
 fn count_end(ends: &mut Vec<usize>, place: usize) -> usize {
     match ends.get_mut(place) {
         Some(count) => {
@@ -115,7 +115,7 @@ fn ends_of(alloc: Global, boxes: usize, lanes: &[Lane]) -> Result<Vec<usize>, Al
     Ok(ends)
 }
 
-/// The height of a box with so many ends at a side: each end is in a place of its own.
+/// The height of a box with this many ends at a side: each end is in a place of its own.
 fn height(ends: usize) -> usize {
     ends.saturating_mul(PORT)
         .saturating_add(PORT)
@@ -243,7 +243,7 @@ fn lane_count(lanes: &[Lane]) -> usize {
     count
 }
 
-/// What stands in the box of each instruction.
+/// What is in the box of each instruction.
 fn labels(alloc: Global, prog: &Prog) -> Result<Vec<String>, AllocError> {
     let mut labels = Vec::new(alloc);
     for (place, insn) in prog.body().iter().enumerate() {

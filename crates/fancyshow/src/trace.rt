@@ -20,7 +20,7 @@ const MOST_BACKTRACKS: usize = 20_000_000;
 
 const HEAD: &str = "    step    byte  text at the byte        branches  backtracks  instruction\n";
 
-/// So many characters of the text are shown before the byte, and so many from there on.
+/// How many characters of the text are shown before the byte, and again from there on.
 const AROUND: usize = 10;
 
 /// Writes the text around the byte, with a bar before the character there.
@@ -137,7 +137,7 @@ fn push_numbers(
     Ok(())
 }
 
-/// How the program is run in a text with so many starts: with an end, for what is printed.
+/// How the program is run in a text with this many starts: with an end, for what is printed.
 fn options(request: &Request, starts: usize) -> RunOptions {
     let options = request.arguments.running();
     RunOptions {
@@ -150,7 +150,7 @@ fn options(request: &Request, starts: usize) -> RunOptions {
     }
 }
 
-/// Writes each instruction that the stepper executes, so many at most and one more, and last what it answers.
+/// Writes each instruction that the stepper executes, `most` of them and one more, and last its result.
 fn push_steps(
     out: &mut String,
     run: Run<'_>,

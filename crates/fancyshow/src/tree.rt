@@ -34,7 +34,7 @@ struct Page<'r, 'p> {
     out: String,
     names: GroupNames,
     pattern: &'p str,
-    /// Where the leaves stand in the pattern, without those that are empty.
+    /// Where the leaves are in the pattern, without those that are empty.
     spans: Vec<Span>,
     /// How many of them are written.
     passed: usize,
@@ -106,7 +106,7 @@ impl Page<'_, '_> {
         self.push_piece(node)
     }
 
-    /// Writes where a leaf stands in the pattern, and what stands there.
+    /// Writes where a leaf is in the pattern, and what is there.
     fn push_piece(&mut self, node: Node<'_, '_>) -> Result<(), AllocError> {
         if !is_plain(node.expr) {
             return Ok(());
@@ -151,7 +151,7 @@ impl Page<'_, '_> {
         self.out.push('\n')
     }
 
-    /// Writes the node and those below it, and answers the number of the next group. Past so many levels nothing is
+    /// Writes the node and those below it, and returns the number of the next group. Beyond this many levels nothing is
     /// written.
     fn push_all(
         &mut self,

@@ -1,4 +1,4 @@
-//! What can stand at the place of a tree's text where it cannot be read on.
+//! What is allowed at the place of a tree's text where it cannot be read on.
 
 use fancy_expr::error::Error;
 use fancy_notation::forms::Form;
@@ -16,7 +16,7 @@ enum Head {
     Form(Form),
 }
 
-/// An open part, and how many things stand in it so far.
+/// An open part, and how many things are in it so far.
 #[derive(Clone, Copy)]
 struct Part {
     head: Head,
@@ -42,7 +42,7 @@ fn one_tree(count: usize) -> &'static str {
     if count == 0 { TREE } else { CLOSE }
 }
 
-/// So many trees.
+/// This many trees.
 fn trees(count: usize, wanted: usize) -> &'static str {
     if count < wanted { TREE } else { CLOSE }
 }
@@ -110,7 +110,7 @@ impl Parts {
         Ok(Parts { parts })
     }
 
-    /// One thing more stands in the innermost part.
+    /// One thing more is in the innermost part.
     fn count_one(&mut self) {
         if let Some(part) = self.parts.last_mut() {
             part.count = part.count.saturating_add(1);
@@ -146,7 +146,7 @@ impl Parts {
         Ok(())
     }
 
-    /// What can stand behind the last token.
+    /// What can follow the last token.
     fn wanted(&self) -> &'static str {
         match self.parts.last() {
             Some(part) => of_part(*part),

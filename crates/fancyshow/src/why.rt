@@ -20,7 +20,7 @@ use fancy_railroad::words::{frame_words, push_words};
 use fancy_vm::vm::RunOptions;
 use std::alloc::{AllocError, Global};
 
-/// A run is watched for so many instructions.
+/// How many instructions of a run are watched.
 const MOST_STEPS: u64 = 200_000;
 
 /// How the marked tree is compiled and run: as the tree itself, but for what limits and shortens the program.
@@ -54,7 +54,7 @@ fn literal(alloc: Global, text: &str, casei: bool) -> Result<String, AllocError>
     format!(in alloc; "{text:?}{note}")
 }
 
-/// What a look-around asks of what stands in it, and that in the notation.
+/// What a look-around asks of what is in it, and that in the notation.
 fn framed(alloc: Global, expr: &Expr, body: &Expr) -> Result<String, AllocError> {
     let words = frame_words(expr);
     let body = notation(alloc, body)?;
@@ -181,7 +181,7 @@ fn marked_pattern(
     marked_lines(alloc, request.source.as_str(), &pieces, false)
 }
 
-/// How far the attempts come, what does not follow there, and where that stands in the pattern.
+/// How far the attempts come, what does not follow there, and where that is in the pattern.
 fn explain_furthest(
     alloc: Global,
     request: &Request,
