@@ -39,7 +39,7 @@ static OPTIONS: [(&str, Option<char>, Kind, &str); 23] = [
         "word-regexp",
         Some('w'),
         Kind::Flag,
-        "No word character stands before or behind a match",
+        "No word character is before or after a match",
     ),
     (
         "line-regexp",
@@ -51,7 +51,7 @@ static OPTIONS: [(&str, Option<char>, Kind, &str); 23] = [
         "longest",
         None,
         Kind::Flag,
-        "Of the matches at the earliest start, the longest",
+        "Find the longest match at the earliest start",
     ),
     (
         "invert-match",
@@ -117,7 +117,7 @@ static OPTIONS: [(&str, Option<char>, Kind, &str); 23] = [
         "color",
         None,
         Kind::When,
-        "Write in colours: always, never or auto, where standard output is a terminal",
+        "Write in colours: always, never or auto, which is if standard output is a terminal",
     ),
     (
         "recursive",
@@ -141,7 +141,7 @@ static OPTIONS: [(&str, Option<char>, Kind, &str); 23] = [
         "visits",
         None,
         Kind::Number,
-        "Visit N states of plain parts of the pattern in a line at most [default: 50000000]",
+        "Visit N states of easy parts of the pattern in a line at most [default: 20000000]",
     ),
     (
         "memory",
