@@ -6,6 +6,7 @@ Places are characters here; answers are in bytes.
 import re
 from collections import namedtuple
 
+from model.analysis import Rounds, size_of
 from model.trees import UNSET
 
 MOST_CALLS = 19
@@ -293,3 +294,25 @@ class Meaning:
                 # max gives the first of the greatest
                 return max(found, key=self.length)
         return None
+
+
+# ---- how many states a search for a fragment visits
+
+
+def states(node):
+    """The states of a plain search before a node or after an iteration, with the counts of the loops around."""
+    inner = sum(states(child) for child in node.children)
+    if node.kind != "rep":
+        return 1 + inner
+    if node.hi != UNSET:
+        counts = node.hi + 1
+    else:
+        # whether an iteration moved is told apart if the body can match the empty string
+        counts = 2 * (node.lo + 1) if node.children[0].size[0] == 0 else node.lo + 1
+    return 1 + counts * (1 + inner)
+
+
+def visit_bound(tree, bytes_left):
+    """How many states a search for the children of an easy tree visits at most: each once at each place."""
+    size_of(tree, Rounds())
+    return (1 + sum(states(child) for child in tree.children)) * (bytes_left + 1)
