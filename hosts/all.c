@@ -3,7 +3,7 @@
 #include <stdio.h>
 #include <string.h>
 
-/* Room for so many matches at a time: few, so that short texts ask for more. */
+/* Room for this many matches at a time: few, so that short texts need more calls. */
 #define ROOM 2
 
 static int print_failure(struct fancy_outcome outcome)

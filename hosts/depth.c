@@ -1,7 +1,7 @@
-/* Compiles one tree or pattern that nests so deep, and searches for it, on a thread with a stack of so many bytes; prints
+/* Compiles one tree or pattern that nests this deep, and searches for it, on a thread with a stack of STACK bytes; prints
  * the name of what came of it.
  *
- * depth [--pattern] STACK DEPTH MAX_DEPTH MAX_NESTING OPEN MIDDLE CLOSE TEXT   OPEN and CLOSE so many times, with MIDDLE between them;
+ * depth [--pattern] STACK DEPTH MAX_DEPTH MAX_NESTING OPEN MIDDLE CLOSE TEXT   OPEN and CLOSE DEPTH times, with MIDDLE between them;
  * `default` for MAX_DEPTH or MAX_NESTING is the default of the library */
 #define _GNU_SOURCE
 #include "fancy.h"

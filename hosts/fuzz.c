@@ -39,7 +39,7 @@ static void check_spans(const char *text, size_t length, const size_t *spans, si
     }
 }
 
-/* Lists the matches with this much room for each call, and answers how many numbers were written. */
+/* Lists the matches with this much room for each call, and returns how many numbers were written. */
 static size_t list(struct fancy_program *program, const char *text, size_t length, const struct fancy_options *options,
                    size_t room, size_t *spans, uint32_t *code)
 {

@@ -1,4 +1,4 @@
-/* What a host is answered when it asks for what cannot be answered: a line for each call. */
+/* What calls return that have no answer: a line for each call. */
 #include "fancy.h"
 #include <stdio.h>
 #include <stdlib.h>
@@ -128,7 +128,7 @@ static void replace_matches(void)
     replace("the first match", "$2=$name", false, 1, 24);
     replace("more than there are", "-", false, 3, 24);
     replace("a template as it stands", "$1$$", true, 0, 24);
-    replace("no more than the text and its zero", "$0", false, 0, 10);
+    replace("just the text and its zero", "$0", false, 0, 10);
     replace("a byte less", "$0", false, 0, 9);
     replace("room for a part", "<$2>", false, 0, 3);
     replace("room in the middle of a replacement", "xy", true, 0, 2);
@@ -150,7 +150,7 @@ static void replace_matches(void)
     fancy_free(&program);
 }
 
-/* So many open parentheses, and as many closed ones. */
+/* This many open parentheses, and the same number of closed ones. */
 static void compile_nested(const char *what, size_t depth)
 {
     char pattern[600];
@@ -346,10 +346,10 @@ static void scan_texts(void)
     options.text_is_utf8 = true;
     scan("a text for which the host answers", "xab\xc3\xa9", 0, 1, 24);
     options = fancy_default_options();
-    add("a pattern that takes nothing", "(?=b)");
-    scan("a match that takes nothing", "cbb", 0, 1, 24);
+    add("a pattern that matches the empty string", "(?=b)");
+    scan("an empty match", "cbb", 0, 1, 24);
     options.step_limit = 0;
-    add("a pattern that passes its limit", "c");
+    add("a pattern that exceeds its limit", "c");
     options = fancy_default_options();
     scan("a limit beside a match", "cabc", 0, 1, 24);
     scan("a limit and no match", "c", 0, 1, 24);
@@ -379,7 +379,7 @@ static void pass_limits(void)
     replace("a replacement within one visit", "-", false, 0, 24);
     compile_pattern("the first of both again", CHOICES);
     options.memory_limit = 1;
-    find("both limits: the first is told", "xabcd");
+    find("both limits: the first is reported", "xabcd");
     options.visit_limit = UINT64_MAX;
     find("more than one byte", "xabcd");
     find_all("all matches within one byte", "xabcd", 2);
@@ -390,17 +390,17 @@ static void pass_limits(void)
     find("0 is no limit", "xabcd");
     options = fancy_default_options();
     options.visit_limit = 1;
-    add("a pattern that passes its limit of visits", CHOICES);
+    add("a pattern that exceeds its limit of visits", CHOICES);
     options.visit_limit = 0;
     options.memory_limit = 1;
-    add("a pattern that passes its limit of memory", CHOICES);
+    add("a pattern that exceeds its limit of memory", CHOICES);
     options = fancy_default_options();
     add("a pattern that passes none", "x");
     scan("limits beside a match", "xabcd", 0, 1, 24);
     fancy_scanner_free(&scanner);
     options.visit_limit = 0;
     options.memory_limit = 1;
-    add("a pattern that passes its limit of memory", CHOICES);
+    add("a pattern that exceeds its limit of memory", CHOICES);
     options = fancy_default_options();
     scan("a limit of memory and no match", "xabcd", 0, 1, 24);
     fancy_scanner_free(&scanner);
@@ -440,7 +440,7 @@ static void refuse_analyses(void)
     compile_pattern("a reference to no group, past the limit", "(a)\\2");
     compile_pattern("a fault behind a reference", "(a)\\1(");
     options.max_nesting = 1;
-    compile_pattern("two limits: that of the analysis is told", "(a)\\1");
+    compile_pattern("two limits: that of the analysis is reported", "(a)\\1");
     options.max_nesting = 500;
     options.analysis_limit = 4;
     compile_pattern("a reference to no group, within the limit", "(a)\\2");
@@ -462,7 +462,7 @@ int main(void)
     compile("a tree that nests too deep and has no end", "(grp (grp");
     options.max_depth = 2;
     compile("a tree without an end", "(grp (grp");
-    compile("a tree of just so many levels", "(cat (grp \"a\") \"(((\")");
+    compile("a tree of just this many levels", "(cat (grp \"a\") \"(((\")");
     options = fancy_default_options();
     options.max_nesting = 3;
     compile("as many nodes in one another as may be", "(cat (grp \"a\") any)");

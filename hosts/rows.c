@@ -1,6 +1,6 @@
 /* Answers rows as scripts/write_host_rows writes them, and prints a line for each, as fancyrun does.
  *
- * rows [--stack BYTES]   on a thread with a stack of so many bytes
+ * rows [--stack BYTES]   on a thread with a stack of BYTES bytes
  * rows --refuse          refuses each request for memory of each row in turn: the row has to end by Memory, or by its
  *                        line where it can do without; and made again to give its line. Prints how many there were.
  * rows --list ..         any of these; the matches of a pattern are listed by fancy_captures_all, and not one by one.

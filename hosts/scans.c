@@ -1,5 +1,5 @@
 /* Scans the text of each row of patterns, as scripts/write_host_rows writes them, for its pattern and the three before it.
- * What fancy_scan tells, with room for one row and for eight, has to be what searches by fancy_find for each pattern say.
+ * What fancy_scan finds, with room for one row and for eight, has to be what searches by fancy_find for each pattern say.
  *
  * scans            prints how many scans there were, and how many matches
  * scans --refuse   refuses each request for memory of each scan in turn: the call has to end by Memory, or to tell the same;
@@ -116,7 +116,7 @@ static void tell_searches(const struct row *rules, size_t count, const struct ro
     fclose(told->file);
 }
 
-/* The same by a scanner, with room for so many rows. False where memory was wanted. */
+/* The same by a scanner, with room for this many rows. False if it was out of memory. */
 static bool tell_scan(const struct row *rules, size_t count, const struct row *row, size_t most, struct told *told)
 {
     struct fancy_scanner scanner = FANCY_NOTHING;

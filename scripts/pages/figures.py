@@ -46,7 +46,7 @@ def source(found):
     command, machine = (alike(found, it) for it in ("command", "machine"))
     said = [date, commit, machine[0] if machine else ""]
     text = ", ".join(filter(None, said))
-    return f"{text}: `{command[0]}`." if command and date else f"{text}."
+    return f"{text}: `{command[0]}`." if command and date else text and f"{text}."
 
 
 def when(found):
@@ -70,5 +70,6 @@ def table(file):
         newest_of_thing = max(filter(None, measured), key=lambda it: it["date"])
         values = [it["value"] if it else "" for it in measured]
         yield "| " + " | ".join(map(cell, [thing, *values, *dated(newest_of_thing)])) + " |"
-    yield ""
-    yield source(found)
+    if source(found):
+        yield ""
+        yield source(found)

@@ -1,6 +1,6 @@
-"""Writes the package as a wheel, with Python's own library alone, so that `pip install` asks for no network.
+"""Writes the package as a wheel, with Python's own library alone, so that `pip install` needs no network.
 
-With `--config-settings library=FILE` the wheel has this libfancy.so inside, and the tag of the C library that it asks for.
+With `--config-settings library=FILE` the wheel has this libfancy.so inside, and the tag of the C library that it needs.
 """
 
 import base64
@@ -34,7 +34,7 @@ def metadata():
 
 
 def tag(library):
-    """The platforms of a wheel: any without a library, and otherwise Linux with the C library that it asks for."""
+    """The platforms of a wheel: any without a library, and otherwise Linux with the C library that it needs."""
     if library is None:
         return "any"
     asked = re.findall(rb"GLIBC_2\.(\d+)", library.read_bytes())

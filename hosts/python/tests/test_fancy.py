@@ -30,7 +30,7 @@ class Syntax(unittest.TestCase):
         self.assertEqual(fancy.search("(?m)a$", "a\n").span(), (0, 1))
 
     def test_empty_matches(self):
-        # one directly behind another match is left out
+        # one directly after another match is left out
         self.assertEqual(fancy.findall("a*", "aab"), ["aa", ""])
         self.assertEqual(fancy.findall("(a*)", "aab"), ["aa", ""])
         self.assertEqual(fancy.sub("x*", "-", "abxd"), "-a-b-d-")
@@ -126,7 +126,7 @@ class Errors(unittest.TestCase):
         self.assertNotIsInstance(caught.exception, fancy.LimitError)
         for options in ({"analysis_limit": 32}, {"analysis_limit": 0}, {}):
             self.assertEqual(fancy.compile(looked_at, **options).search("xababa").span(), (1, 6))
-        # what has no references passes no limit, and a limit comes before other refusals
+        # what has no references exceeds no limit, and a limit comes before other refusals
         self.assertEqual(fancy.compile("(a)(b)", analysis_limit=1).search("ab").groups(), ("a", "b"))
         for limit, name in ((3, "AnalysisLimitExceeded"), (4, "InvalidBackref")):
             with self.assertRaises(fancy.error) as caught:

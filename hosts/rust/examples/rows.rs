@@ -1,5 +1,5 @@
 //! Answers rows as `scripts/write_host_rows` writes them, and prints a line for each, as the library for C does; with a number, on a
-//! thread with a stack of so many bytes, and with so many nodes in one another as that is enough for.
+//! thread with a stack of BYTES bytes, and with as many nodes in one another as it allows.
 
 use fancy::{Captures, CompileError, Error, Match, Options, ParseError, Regex, Result};
 use std::io::{stdin, Lines, StdinLock};

@@ -385,7 +385,7 @@ fn limits_of_analysis() {
             1..6
         );
     }
-    // what has no references passes no limit, and a limit comes before other refusals
+    // what has no references exceeds no limit, and a limit comes before other refusals
     let build = |pattern: &str| RegexBuilder::new(pattern).analysis_limit(3).build();
     assert!(build("(a)(b)").is_ok());
     assert_eq!(build(r"(a)\2").unwrap_err(), passed);
@@ -502,7 +502,7 @@ fn escaped_texts() {
     assert!(matches!(escape("abc"), Cow::Borrowed("abc")));
 }
 
-/// Each match of a scan: its pattern, where it lies, and which pattern passed a limit.
+/// Each match of a scan: its pattern, where it is, and which pattern exceeded a limit.
 fn scanned(scanner: &mut Scanner, text: &str) -> Vec<(usize, usize, usize, Option<usize>)> {
     let all = scanner.scan(text).map(|it| {
         let it = it.unwrap();
