@@ -29,7 +29,7 @@ def sources(crate):
 
 
 def sum_of_sources(crate, how=How()):
-    """A sum over all that a build of a crate goes by."""
+    """A sum over all that a build of a crate depends on."""
     names = listed()
     text = hashlib.sha256(repr((kit_name(), tuple(how), [(it, names[it]) for it in (*below(crate, names), crate)])).encode())
     for file in (*sources(crate), *HOW):
@@ -97,7 +97,7 @@ def build_kept(crate):
 
 
 def build_all(crates, jobs, say):
-    """Builds several crates side by side. Returns the file of each; `say` is told of each that is done."""
+    """Builds several crates side by side. Returns the file of each; `say` gets a line for each that is done."""
 
     def work(crate):
         file, is_new = build_kept(crate)

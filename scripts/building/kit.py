@@ -8,7 +8,7 @@ TARGET = "x86_64-unknown-linux-gnu"
 
 
 class Failure(Exception):
-    """What the user is told."""
+    """A message for the user."""
 
 
 def run(words, **how):

@@ -48,7 +48,7 @@ def quoted(text):
 
 
 class Reader:
-    """Reads one pattern; a node is a tuple of its word and what stands behind it."""
+    """Reads one pattern; a node is a tuple of its word and what follows it."""
 
     def __init__(self, text, flags, oniguruma, named_only):
         self.text, self.flags, self.oniguruma, self.named_only = text, flags, oniguruma, named_only
@@ -262,7 +262,7 @@ class Reader:
         return self.text[start : self.at]
 
     def class_text(self):
-        """What stands in a class, with its brackets, as it is handed on."""
+        """What is in a class, with its brackets, as it is handed on."""
         out, depth, head = ["["], 1, True
         while depth:
             start = self.at
@@ -380,7 +380,7 @@ class Reader:
         self.flags = flags
 
     def around(self, parenthesis, read, flags=None):
-        """What stands in the group, read with these flags."""
+        """What is in the group, read with these flags."""
         outside = self.flags
         self.enter(parenthesis)
         self.flags = flags or outside
@@ -502,7 +502,7 @@ class Reader:
 
 # ---- the notation
 
-# so many groups may have a name that is referred to
+# this many groups may have a name that is referred to
 MOST_NAMESAKES = 100
 
 

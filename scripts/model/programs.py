@@ -392,7 +392,7 @@ class Writer:
 
 
 def program(tree, options, most=None):
-    """The listing of the tree's program, or the refusals that hold. A program of more than so many instructions is an OverflowError."""
+    """The listing of the tree's program, or the refusals that hold. A program of more instructions is an OverflowError."""
     analysis = Analysis(tree, options)
     refused = analysis.refusals_of_analysis()
     if refused:

@@ -98,7 +98,7 @@ class RandomTree:
         return f"({self.source.choice(['ahead', 'nahead'])} {self.node(depth)})"
 
     def look_behind(self, depth):
-        """Its body is mostly one that may stand there."""
+        """Its body is mostly one that is allowed there."""
         word = self.source.choice(["behind", "nbehind"])
         kind = self.source.random()
         if kind < 0.25:

@@ -25,7 +25,7 @@ class Node:
     # by the analysis
     start_group: int = 0
     end_group: int = 0
-    look: str = ""  # the innermost look-around that it stands in: "ahead", "behind" or none
+    look: str = ""  # the innermost look-around that it is in: "ahead", "behind" or none
     size: tuple = ()
     hard: bool = False
     at_start: bool = False
@@ -75,7 +75,7 @@ LOOKS = {
     "behind": {},
     "nbehind": {"negative": True},
 }
-# words with so many children
+# words with this many children
 BRANCHES = {"grp": 1, "atom": 1, "define": 1, "absent": 1, "absstop": 1, "absexp": 2, "if": 3}
 
 TOKEN = re.compile(r' *(?:([()])|(i?"(?:[^"\\]|\\["\\nr]|\\u\{[0-9a-fA-F]{1,6}\})*")|([^ ()"]+))')

@@ -1,4 +1,4 @@
-"""The ways of trees, listed one by one as docs/MEANING.md says, and what a search answers by them.
+"""The ways of trees, listed one by one as docs/MEANING.md says, and what a search finds by them.
 
 It shares nothing with the engine and its definitions, and knows no fast path: it lists all ways, so it is for short texts.
 Places are characters here; answers are in bytes.
@@ -279,7 +279,7 @@ class Meaning:
         return end - start
 
     def admitted(self, start, not_empty):
-        """The ways from a start, without those that take nothing if the search asks for something."""
+        """The ways from a start, without the empty ones if the search is for a match that is not empty."""
         return (way for way in self.from_start(start) if not (not_empty and way.at == start))
 
     def first(self, starts, not_empty=False):

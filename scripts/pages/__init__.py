@@ -1,1 +1,1 @@
-"""What stands in the pages and is made from the sources or from results/: tables, and the words that are counted."""
+"""What the pages have that is made from the sources or from results/: tables, and the words that are counted."""

@@ -4,7 +4,7 @@ from pathlib import Path
 
 CRATES = Path(__file__).resolve().parent.parent.parent / "crates"
 HEAD = re.compile(r"( *)(?:pub(?:\(.*?\))? )?(?:(?:const|unsafe|extern \"C\") )*fn (\w+)")
-# what stands in the brackets of a `matches!`, itself with brackets
+# what is in the brackets of a `matches!`, itself with brackets
 TEST = re.compile(r"matches!\(((?:[^()]|\((?:[^()]|\([^()]*\))*\))*)\)")
 
 
@@ -35,7 +35,7 @@ def arms(enum, lines):
 
 
 def told_apart(enum, lines):
-    """The variants that a function tells apart, and whether others pass silently."""
+    """The variants that a function matches on, and whether others pass silently."""
     text, found = "\n".join(lines), [*arms(enum, lines)]
     tests = TEST.findall(text) + re.findall(rf"\blet [\w(&]*{enum}::\w+", text)
     names = re.findall(rf"\b{enum}::(\w+)", " ".join([*tests, *(pattern for _, pattern in found)]))
@@ -54,7 +54,7 @@ def named(page):
 
 
 def tellers(enum):
-    """Gives the file, the name, the variants, and whether others pass silently, of each function that tells them apart."""
+    """Gives the file, the name, the variants, and whether others pass silently, of each function that matches on them."""
     for file in sorted(CRATES.glob("*/src/**/*.rt")):
         place = str(file.relative_to(CRATES)).replace("/src/", "/")
         for name, lines in functions(file):
