@@ -92,7 +92,7 @@ impl Default for SearchOptions {
 /// A tree that was compiled for searches: its program, and what is known of its matches.
 pub struct Compiled {
     prog: Prog,
-    /// How many characters each match has at least.
+    /// How many characters each match takes at least.
     min_size: usize,
 }
 
