@@ -4,7 +4,6 @@ pub mod StartRunLaws
 pub mod VectorScanLaws
 pub mod StartsLaws
 pub mod AttemptLaws
-pub mod LazyLoopsLaws
 pub mod BackLaws
 pub mod ThreadsLaws
 pub mod PlacesLaws
@@ -12,6 +11,5 @@ pub mod LeadingLaws
 pub mod LookLaws
 pub mod LookScanLaws
 pub mod WalkLaws
-pub mod TurnsLaws
 pub mod AtomicPartsLaws
 pub mod RunPrefilterLaws

@@ -3,11 +3,10 @@ pub mod Programs
 pub mod StartPrefilters
 pub mod StartRuns
 pub mod Attempts
-pub mod LazyLoops
+pub mod Takes
 pub mod RunPrefilters
 pub mod SingleDelegates
 pub mod Strategies
 pub mod AsciiSets
 pub mod LookPrefilters
 pub mod Walks
-pub mod Turns

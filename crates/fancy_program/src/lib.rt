@@ -4,7 +4,6 @@
 mod ascii_set;
 mod attempt;
 pub mod insn;
-pub mod lazy;
 mod listing;
 pub mod look_prefilter;
 pub mod moves;
@@ -15,5 +14,4 @@ pub mod run_prefilter;
 mod shape;
 pub mod strategy;
 pub mod threads;
-pub mod turns;
 mod vector_scan;

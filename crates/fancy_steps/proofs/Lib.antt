@@ -7,7 +7,5 @@ pub mod LookBehindCacheLaws
 pub mod TrailingNewlinesLaws
 pub mod MemosLaws
 pub mod PairsLaws
-pub mod AtomicPartsLaws
 pub mod LastStartsLaws
 pub mod SearchLimitsLaws
-pub mod TurnsLaws

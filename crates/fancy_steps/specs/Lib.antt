@@ -7,7 +7,5 @@ pub mod Stops
 pub mod TrailingNewlines
 pub mod LookBehindCaches
 pub mod Outcomes
-pub mod AtomicParts
 pub mod SearchLimits
 pub mod LastStarts
-pub mod Turns

@@ -43,6 +43,14 @@ impl FarMatches {
         FarMatches { bytes: 0, read: 0 }
     }
 
+    /// How many visits the walks cost.
+    #[inline(always)]
+    pub fn visits(&self) -> u64
+        ensures { result ≡ self.now.read / PASSED_AT_ONCE }
+    {
+        passed(self.read) as u64
+    }
+
     /// The walks passed much, and the text often.
     #[inline(always)]
     pub fn read_much(&self, text: &str) -> bool

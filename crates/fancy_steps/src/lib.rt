@@ -1,10 +1,8 @@
 //! The steps of the machine, and its run.
 #![tactic(auto)]
 
-mod atomic_parts;
 mod delegates;
 pub mod far_matches;
-mod lazy;
 pub mod limits;
 pub mod longest;
 mod look_behind_cache;
@@ -16,4 +14,3 @@ pub mod search_limits;
 pub mod starts;
 mod steps;
 mod trailing_newlines;
-mod turns;

@@ -8,16 +8,12 @@ ghost use Rattle.fancy_steps.specs.SearchLimits.{is_past, is_past_bytes};
 ghost use Rattle.fancy_steps.specs.Sound.{IsSound};
 ghost use Rattle.fancy_steps.specs.LookBehindCaches.{IsLookBehindCache};
 ghost use Rattle.fancy_steps.specs.TrailingNewlines.{AreTrailingNewlines};
-ghost use Rattle.fancy_steps.specs.Turns.{AreKeptRuns};
-ghost use Rattle.fancy_program.specs.Programs.{prog_of};
 
-use crate::far_matches::FarMatches;
 use crate::longest::Longest;
 use crate::look_behind_cache::LookBehindCache;
 use crate::options::RunOptions;
 use crate::search_limits::SearchLimits;
 use crate::trailing_newlines::TrailingNewlines;
-use crate::turns::KeptRuns;
 use fancy_expr::error::{Error, RuntimeError};
 use fancy_program::insn::Prog;
 use fancy_state::state::State;
@@ -49,13 +45,10 @@ pub struct Machine<'a> {
     /// Where the attempt began.
     pub start: usize,
     pub backtracks: usize,
-    /// How many instructions after the first one stand for the last step that passed over starts, rounds or turns of a
-    /// loop, or an atomic part.
+    /// How many instructions after the first one stand for the last step that passed over starts.
     pub passed: u64,
     /// The run prefilter was asked of all starts before this byte: in vain, where the search comes to one.
     pub(crate) asked: usize,
-    /// The atomic parts made in one step that went far.
-    pub(crate) far_parts: FarMatches,
     pub state: State,
     /// The longest match so far, where the longest is asked for.
     pub longest: Longest,
@@ -63,28 +56,16 @@ pub struct Machine<'a> {
     pub(crate) trailing_newlines: TrailingNewlines,
     /// What the last long step back found.
     pub(crate) look_behind_cache: LookBehindCache,
-    /// The long runs of bytes that the bodies of counted loops took one by one.
-    pub(crate) kept_runs: KeptRuns,
     ghost sound: { IsSound task state.held },
     ghost are_trailing_newlines: { AreTrailingNewlines task.text.now trailing_newlines },
     ghost is_cache: { IsLookBehindCache task.text.now look_behind_cache },
-    ghost are_kept_runs: { AreKeptRuns (prog_of task.prog.now).body task.text.now kept_runs },
-}
-
-/// How far a step goes at the beginning of an atomic part.
-#[derive(Clone, Copy)]
-pub enum Stride {
-    /// By one instruction.
-    Instruction,
-    /// Behind the part, where it is one fragment.
-    Part,
 }
 
 /// What an instruction led to.
 #[derive(Clone, Copy)]
 pub enum Next {
     On,
-    /// Starts, rounds or turns of a loop, or an atomic part were passed over.
+    /// Starts were passed over.
     Passed,
     /// The machine is to fall back to the last branch. No step answers so, but a part of one.
     Fails,
@@ -202,12 +183,10 @@ impl<'a> Machine<'a> {
             backtracks: 0,
             passed: 0,
             asked: 0,
-            far_parts: FarMatches::none(),
             state,
             longest,
             trailing_newlines: TrailingNewlines::new(),
             look_behind_cache: LookBehindCache::new(),
-            kept_runs: KeptRuns::new(task.alloc),
         }
     }
 

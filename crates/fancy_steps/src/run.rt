@@ -6,7 +6,7 @@ ghost use Rattle.fancy_meaning.specs.Places.{is_place};
 ghost use Rattle.fancy_steps.specs.Memos.{AreMemosOf};
 ghost use Rattle.fancy_steps.specs.Outcomes.{RunEnds, RunAnswers, RunAnswersPair, answer_in, config_of, ending, plain_task};
 
-use crate::machine::{Machine, Next, Stop, Stride};
+use crate::machine::{Machine, Next, Stop};
 use crate::memos::Memos;
 use fancy_expr::error::{Error, RuntimeError};
 use fancy_program::insn::Insn;
@@ -28,7 +28,7 @@ impl Machine<'_> {
         let body: &[Insn] = &prog.body;
         'steps: while left > 0 {
             left -= 1;
-            match self.step(body, memos, Stride::Part)? {
+            match self.step(body, memos)? {
                 Next::On => {}
                 Next::Passed => {
                     left = left.saturating_sub(self.passed);

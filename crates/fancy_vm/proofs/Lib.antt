@@ -3,5 +3,4 @@ pub mod SteppersLaws
 pub mod MeaningLaws
 pub mod BoundsLaws
 pub mod SingleDelegateLaws
-pub mod SingleBranchLaws
 pub mod RequiredLaws

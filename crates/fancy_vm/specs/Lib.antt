@@ -6,5 +6,4 @@ pub mod Steppers
 pub mod StepperSteps
 pub mod Founds
 pub mod HeldWays
-pub mod SingleBranch
 pub mod Scratches

@@ -3,7 +3,6 @@
 
 mod required_bytes;
 mod runs;
-mod single_branch;
 mod single_delegate;
 mod start_filters;
 mod stepper;

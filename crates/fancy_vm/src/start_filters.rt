@@ -17,10 +17,8 @@ const GREATEST_PATIENCE: usize = 1_024;
 const FIRST_PATIENCE: usize = 64;
 /// Attempts that fail at fewer starts than one in so many bytes cost less than the filter.
 const BYTES: usize = 16;
-/// An attempt that makes a search counts as so many.
-const SEARCH: u64 = 4;
-/// One that takes up so many states counts as one more.
-const VISITS: u64 = 32;
+/// An attempt that takes up so many states counts as one more.
+const VISITS: u64 = 8;
 /// To ask costs about as much as so many attempts.
 const ASKING: usize = 8;
 /// As the nodes are compared then, it costs one more for each two states beyond so many.
@@ -37,7 +35,7 @@ pub(crate) struct StartFilters {
     /// How many of these are still to fail, and where they began.
     left: usize,
     begun: usize,
-    /// How many attempts failed for want of a filter, and after how many one is made.
+    /// How many attempts failed since a filter was made, and after how many the next one is.
     failures: usize,
     making: usize,
     /// How many states the run had taken up when the last attempt failed.
@@ -62,17 +60,15 @@ impl StartFilters {
         }
     }
 
-    /// Notes that an attempt failed, after which the run has taken up so many states. Tells whether the filter is to be
+    /// Notes that an attempt failed, after which the run has taken up so many states, with what its walks passed. Tells whether the filter is to be
     /// asked, as it always is where only the text's beginning is a start.
     #[inline(always)]
     pub(crate) fn are_due(&mut self, is_first_alone: bool, visits: u64) -> bool {
-        let mut cost = 1;
-        if visits != self.visits {
-            let taken = visits.saturating_sub(self.visits) / VISITS;
-            cost = taken.saturating_add(SEARCH) as usize;
-            self.visits = visits;
-        }
+        let taken = visits.saturating_sub(self.visits) / VISITS;
+        let cost = taken.saturating_add(1) as usize;
+        self.visits = visits;
         self.left = self.left.saturating_sub(cost);
+        self.failures = self.failures.saturating_add(cost);
         is_first_alone || self.left == 0
     }
 
@@ -140,7 +136,6 @@ impl StartFilters {
                 return true;
             }
         }
-        self.failures = self.failures.saturating_add(self.patience);
         if self.failures < self.making {
             return false;
         }

@@ -12,7 +12,7 @@ use fancy_expr::error::{Error, RuntimeError};
 use fancy_program::insn::Prog;
 use fancy_state::state::State;
 use fancy_steps::longest::Longest;
-use fancy_steps::machine::{MAX_BRANCHES, Machine, Next, Stride, Task};
+use fancy_steps::machine::{MAX_BRANCHES, Machine, Next, Task};
 use fancy_steps::memos::Memos;
 use fancy_steps::options::RunOptions;
 use fancy_steps::search_limits::SearchLimits;
@@ -118,8 +118,8 @@ impl<'a> Stepper<'a> {
         self.steps
     }
 
-    /// Executes the next instruction, or all those of starts, or of rounds or turns of a loop, that are passed over
-    /// together. The stepper comes back where the run goes on.
+    /// Executes the next instruction, or all those of starts that are passed over together. The stepper comes back where
+    /// the run goes on.
     ///
     /// A `RuntimeError` tells which limit the run passed, and `Memory` that a request for memory was refused. Either
     /// ends the stepper.
@@ -137,7 +137,7 @@ impl<'a> Stepper<'a> {
             return Err(Error::RuntimeError(RuntimeError::StepLimitExceeded));
         }
         let prog = machine.task.prog;
-        let passed = match machine.step(&prog.body, &mut memos, Stride::Instruction)? {
+        let passed = match machine.step(&prog.body, &mut memos)? {
             Next::On => 0,
             Next::Passed => machine.passed,
             Next::Fails => unreachable!(),

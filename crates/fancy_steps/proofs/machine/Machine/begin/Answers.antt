@@ -6,7 +6,6 @@ use Rattle.fancy_meaning.specs.Config.{Config, Slots}
 use Rattle.fancy_meaning.specs.Machine as machine
 use Rattle.fancy_meaning.specs.Numbers.{usize_max}
 use Rattle.fancy_state.specs.Held.{StateView}
-use Rattle.fancy_program.specs.Programs.{prog_of}
 use Rattle.fancy_steps.specs.Outcomes.{config_at, plain_task}
 use Rattle.fancy_steps.specs.Sound.{IsSound}
 use Rattle.fancy_steps.proofs.machine.Machine.begin.Goals as goal
@@ -25,7 +24,6 @@ invariant_of-result c =
           (record { slots = len; small = omega (arith, len); max_stack = refl; implicit = c.requires.implicit });
       are_trailing_newlines = c.new.ensures c.args.task.now.text.now;
       is_cache = c.new-2.ensures c.args.task.now.text.now;
-      are_kept_runs = c.new-3.ensures (prog_of c.args.task.now.prog.now).body c.args.task.now.text.now;
     }
 
 pub returns-clause-begins : goal.returns-clause-begins
