@@ -24,8 +24,6 @@ use Rattle.fancy_nfa.specs.NfaSearch.{Pair}
 use Rattle.fancy_backtrack.specs.declared.memo.Memo.{Memo}
 use Rattle.fancy_backtrack.specs.Memos.{HaveFailed}
 use Rattle.fancy_fragments.specs.declared.fragment.Fragment.{Fragment}
-use Rattle.fancy_plain.specs.LeadingRuns as nfa_runs
-use Rattle.fancy_fragments.specs.LeadingRuns.{HasNoWayAlong}
 use Rattle.fancy_fragments.specs.Nodes.{IsLaidOut}
 use Rattle.fancy_fragments.specs.Fragments.{nodes_of, nfa_or, joined_nfa, HasNoWayFrom, IsFirstWayOf, IsOnePassOf, IsOnePassWayOf}
 use Rattle.fancy_fragments.proofs.EasySizes.{bound_alike}
@@ -80,18 +78,6 @@ module _ (f : Fragment) where
       (λ u. IsSeenAs None (first_seen (record { text = text; pos = pos; continued = continued; unicode = u }) (nodes_of f) place))
       laid.1.unicode
       (subst (IsSeenAs None) (sym (h laid.0 (nodes_of f) (by_option laid) pos continued)) tt))
-
-  -- none along a run, where the NFA's nodes have none
-  pub no_way_along : (text : List ℕ) (from to : ℕ) → nfa_runs.HasNoWayAlong text f.nfa from to → HasNoWayFrom text f from → HasNoWayAlong text f from to
-  no_way_along text from to h none = λ i low high pos continued.
-      ∥∥₁_elim f.laid_out (seen-prop None _) (λ laid.
-      subst
-      (λ u. IsSeenAs None (first_seen (record { text = text; pos = pos; continued = continued; unicode = u }) (nodes_of f) i))
-      laid.1.unicode
-      (subst (IsSeenAs None) (sym
-      (h laid.0 (nodes_of f) (by_option laid)
-      (λ p c. none_seen _ (subst (λ u. IsSeenAs None (first_seen (record { text = text; pos = p; continued = c; unicode = u }) (nodes_of f) from)) (sym laid.1.unicode) (none p c)))
-      i low high pos continued)) tt))
 
   pub one_pass_from : (text : List ℕ) (place : ℕ) (s : OnePass) → IsOnePass text f.nfa place s → IsOnePassOf text f place s
   one_pass_from text place (one_pass.Ends end) h = λ pos continued.

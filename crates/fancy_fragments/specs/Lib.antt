@@ -4,6 +4,4 @@ pub mod Nodes
 pub mod Fragments
 pub mod Delegates
 pub mod Leading
-pub mod LeadingRuns
-pub mod LeadingBranches
 pub mod StartFilters

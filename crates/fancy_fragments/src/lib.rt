@@ -6,7 +6,6 @@ pub mod delegate;
 pub mod first_way;
 pub mod fragment;
 pub mod leading;
-pub mod leading_run;
 mod same;
 mod settable;
 pub mod start_filter;

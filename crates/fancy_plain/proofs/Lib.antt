@@ -11,10 +11,6 @@ pub mod FirstWayLaws
 pub mod ReadStates
 pub mod KeptLaws
 pub mod FirstSetLaws
-pub mod RunFiltersLaws
-pub mod BranchFiltersLaws
-pub mod BranchMarksLaws
-pub mod RunLevelsLaws
 pub mod RequiredBytesLaws
 pub mod GroupSpansLaws
 pub mod DeadEndLaws

@@ -8,11 +8,8 @@ use Rattle.fancy_nfa.specs.FirstWays.{first_seen}
 use Rattle.fancy_plain.specs.declared.leading_runs.OnlyRun.{OnlyRun}
 use Rattle.fancy_plain.specs.declared.nfa.Nfa.{Nfa}
 use Rattle.fancy_plain.specs.declared.one_pass.OnePass.TheVariants as one_pass
-use Rattle.fancy_plain.specs.declared.run_filters.RunFilter.{RunFilter}
 use Rattle.fancy_plain.specs.Nfas.{IsNfaOf}
 use Rattle.fancy_plain.specs.OnePass.{IsOnePass}
-use Rattle.fancy_plain.specs.RunFilters.{FailsAlong}
-use Rattle.fancy_plain.specs.Ways.{HasNoWayAt}
 
 -- these nodes have no way from the place, wherever the search of the whole pattern began
 abbrev pub HaveNoWay : (text : List ℕ) → (unicode : Bool) → List Tree → (place : ℕ) → Type 0
@@ -34,8 +31,3 @@ abbrev pub IsOnlyRun : Nfa → OnlyRun → Type 0
 IsOnlyRun f run = (text : List ℕ) (from to : ℕ) → IsText text → is_place text from ≡ true → from + run.least ≤ to →
     ((i : ℕ) → from ≤ i → i < to → HasAscii run.taken true text i) → HasAscii run.taken false text to →
     IsOnePass text f from (one_pass.Ends to)
-
--- the nodes have no way from a place of a run that the filter knows
-abbrev pub FiltersRuns : Nfa → RunFilter → Type 0
-FiltersRuns nfa f = (text : List ℕ) (from to : ℕ) → IsText text → is_place text from ≡ true →
-    FailsAlong f text from to → (i : ℕ) → from ≤ i → i ≤ to → HasNoWayAt text nfa i

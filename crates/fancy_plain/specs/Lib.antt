@@ -12,8 +12,6 @@ pub mod GroupSpans
 pub mod OnePass
 pub mod AsciiRuns
 pub mod CountedWays
-pub mod BranchFilters
-pub mod BranchMarks
 pub mod BranchLoops
 pub mod BranchTables
 pub mod FailingBranches
@@ -22,9 +20,6 @@ pub mod KeptEnds
 pub mod FoundEnds
 pub mod OnePassCaches
 pub mod RequiredBytes
-pub mod RunFilters
-pub mod RunLevels
 pub mod LoopsInLoops
 pub mod LeadingLoops
 pub mod LeadingRuns
-pub mod LeadingBranches

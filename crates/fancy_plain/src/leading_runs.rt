@@ -2,12 +2,11 @@
 
 ghost use Rattle.std.specs.Option.{ForSome};
 ghost use Rattle.std.specs.Prelude.{◌≡◌, ◌≤◌, ◌<◌, ◌+◌, ◌∷◌, [], ℕ, IfSome, IsTrue, Some, false, slice_get, slice_index_or};
-ghost use Rattle.fancy_meaning.specs.Places.{is_place};
 ghost use Rattle.fancy_nfa.specs.NfaSearch.{passes};
 ghost use Rattle.fancy_plain.specs.declared.nfa_state.CharTest as tests;
 ghost use Rattle.fancy_plain.specs.declared.nfa_state.NfaState.TheVariants as nfa_state;
 ghost use Rattle.fancy_plain.specs.LeadingLoops.{Enters, IsLeadingRun, IsRunAt};
-ghost use Rattle.fancy_plain.specs.LeadingRuns.{HasNoWayAlong, IsOnlyRun};
+ghost use Rattle.fancy_plain.specs.LeadingRuns.{IsOnlyRun};
 ghost use Rattle.fancy_plain.specs.Views.{IsReadBy, test_of};
 ghost use Rattle.fancy_plain.specs.Ways.{IsOfNodes};
 
@@ -25,25 +24,6 @@ pub struct OnlyRun {
 }
 
 impl Nfa {
-    /// The place behind the ASCII characters from `ix` on that the loop takes with which each way begins: if there is no
-    /// way from `ix`, there is none from any place up to there. It is `ix` where ways do not begin with such a loop.
-    #[inline(always)]
-    pub fn past_leading_run(&self, text: &str, ix: usize) -> usize
-        requires place { IsTrue (is_place text.now ix) }
-        requires nodes { ∥ IsOfNodes self.now ∥₁ }
-        ensures order { ix ≤ result }
-        ensures place { IsTrue (is_place text.now result) }
-        ensures none { HasNoWayAlong text.now self.now ix result }
-    {
-        let Some(at) = self.leading_run else {
-            return ix;
-        };
-        let Some(NfaState::Character(test)) = self.states.get(at) else {
-            return ix;
-        };
-        test.past_ascii(self.unicode, text.as_bytes(), ix)
-    }
-
     /// The loop, where the nodes are one greedy loop over one character and nothing else.
     pub fn only_run(&self) -> Option<OnlyRun>
         requires nodes { ∥ IsOfNodes self.now ∥₁ }

@@ -2,7 +2,6 @@
 #![tactic(auto)]
 
 mod ascii_runs;
-pub mod branch_filters;
 mod branch_loops;
 mod branch_tables;
 mod counted_ways;
@@ -22,7 +21,6 @@ mod nfa_state;
 pub mod one_pass;
 pub mod one_pass_cache;
 pub mod required_bytes;
-pub mod run_filters;
 mod runs;
 mod search;
 mod test_runs;

@@ -7,19 +7,16 @@ ghost use Rattle.fancy_expr.specs.Each.{Each};
 ghost use Rattle.fancy_meaning.specs.Options.{Analysis};
 ghost use Rattle.fancy_meaning.specs.Places.{is_place};
 ghost use Rattle.fancy_meaning.specs.Premises.{IsText};
-ghost use Rattle.fancy_plain.specs.BranchFilters.{IsBranchFilter};
 ghost use Rattle.fancy_plain.specs.BranchTables.{AreTables};
 ghost use Rattle.fancy_plain.specs.FirstSets.{may_begin, AreFirstSets};
 ghost use Rattle.fancy_plain.specs.RequiredBytes.{AreRequired, IsOnlyOf};
 ghost use Rattle.fancy_plain.specs.LeadingLoops.{IsLeadingRun};
 ghost use Rattle.fancy_plain.specs.LoopsInLoops.{begins_loop, has_loop_in_loop, is_counter_loop};
 ghost use Rattle.fancy_plain.specs.Neighbours.{AreNeighbours, IsEasy};
-ghost use Rattle.fancy_plain.specs.RunFilters.{IsRunFilter};
 ghost use Rattle.fancy_plain.specs.Views.{state_of};
 ghost use Rattle.fancy_joining.specs.JoinedLoops.{joined};
 ghost use Rattle.std.proofs.Props.{props};
 
-use crate::branch_filters::BranchFilter;
 use crate::branch_tables::BranchTables;
 use crate::first_sets::{first_sets, may_begin};
 use crate::kept_runs::LONG;
@@ -27,7 +24,6 @@ use crate::layout::{Layout, room_for};
 use crate::leading_runs::leading_run;
 use crate::nfa_state::NfaState;
 use crate::required_bytes::{only_of, required_bytes};
-use crate::run_filters::RunFilter;
 use crate::search::Searcher;
 use fancy_backtrack::memo::Memo;
 use fancy_backtrack::pair_bits::{Loops, PairBits};
@@ -59,18 +55,10 @@ pub struct Nfa {
     pub(crate) branches: BranchTables,
     /// The state of the test of the greedy loop over one character with which each way begins, if there is one.
     pub(crate) leading_run: Option<usize>,
-    /// What stands behind a run with which each way begins, if there is one.
-    pub(crate) run_filter: Option<Box<RunFilter>>,
-    /// With which characters ways by the branches begin, if they seem to begin with an alternation.
-    pub(crate) branch_filter: Option<Box<BranchFilter>>,
     ghost begin: { AreFirstSets unicode (map state_of states.items) first_sets.items },
     ghost need: { IfSome required_bytes (AreRequired unicode (map state_of states.items)) } by { Prim.hlevel props },
     ghost tables: { AreTables unicode states.items branches },
     ghost only: { ForSome required_byte (IsOnlyOf required_bytes) },
-    ghost runs: { IfSome run_filter
-        (λ filter. IsRunFilter unicode (map state_of states.items) filter.value) } by { Prim.hlevel props },
-    ghost alternation: { IfSome branch_filter
-        (λ filter. IsBranchFilter unicode (map state_of states.items) filter.value) } by { Prim.hlevel props },
     ghost leads: { ForSome leading_run (λ at. ∥ IsLeadingRun states.items at ∥₁) },
 }
 
@@ -90,15 +78,11 @@ impl Drop for Nfa {
             required_byte: _,
             branches: _,
             leading_run: _,
-            run_filter: _,
-            branch_filter: _,
         } = self;
     }
 }
 
 impl Nfa {
-    ghost use Rattle.fancy_plain.specs.LeadingBranches.{FiltersBranches};
-    ghost use Rattle.fancy_plain.specs.LeadingRuns.{FiltersRuns};
     ghost use Rattle.fancy_plain.specs.Nfas.{AreFine, HaveClasses, IsNfaOf, IsRefusedFor};
     ghost use Rattle.fancy_plain.specs.Ways.{HasNoWayAt, IsMemoOf};
     ghost use Rattle.fancy_backtrack.specs.Memos.{HaveFailed};
@@ -154,8 +138,6 @@ impl Nfa {
         let required_byte = only_of(&required_bytes);
         let branches = BranchTables::of(alloc, &states, unicode)?;
         let leading_run = leading_run(&states);
-        let run_filter = RunFilter::of(alloc, &states, unicode)?;
-        let branch_filter = BranchFilter::of(alloc, &states, unicode)?;
         let searcher = Searcher {
             states: &states,
             unicode,
@@ -179,8 +161,6 @@ impl Nfa {
             required_byte,
             branches,
             leading_run,
-            run_filter,
-            branch_filter,
         })
     }
 
@@ -225,34 +205,6 @@ impl Nfa {
         ensures none { result ≡ false → HasNoWayAt text.now self.now ix }
     {
         may_begin(&self.first_sets, text.as_bytes(), ix)
-    }
-
-    /// The filter of runs of characters with which ways begin, if they seem to begin so.
-    #[inline(always)]
-    pub fn run_filter(&self) -> Option<&RunFilter>
-        ensures { IfSome result (λ filter. FiltersRuns self.now filter.now) }
-    {
-        match &self.run_filter {
-            None => None,
-            Some(filter) => {
-                let filter: &RunFilter = filter;
-                Some(filter)
-            }
-        }
-    }
-
-    /// The filter of branches with which ways begin, if they seem to begin so.
-    #[inline(always)]
-    pub fn branch_filter(&self) -> Option<&BranchFilter>
-        ensures { IfSome result (λ filter. FiltersBranches self.now filter.now) }
-    {
-        match &self.branch_filter {
-            None => None,
-            Some(filter) => {
-                let filter: &BranchFilter = filter;
-                Some(filter)
-            }
-        }
     }
 
     /// How many states it has.

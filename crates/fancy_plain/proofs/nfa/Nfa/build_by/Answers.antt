@@ -5,13 +5,11 @@ use Rattle.fancy_info.specs.Infos.{info_tree}
 use Rattle.fancy_joining.proofs.JoinedNodes.{joining_keeps_nodes}
 use Rattle.fancy_plain.specs.declared.nfa_state.NfaState.TheVariants as code
 use Rattle.fancy_plain.specs.declared.layout.Layout.{Layout}
-use Rattle.fancy_plain.specs.BranchFilters.{IsBranchFilter}
 use Rattle.fancy_plain.specs.BranchTables.{AreTables}
 use Rattle.fancy_plain.specs.FirstSets.{AreFirstSets}
 use Rattle.fancy_plain.specs.LeadingLoops.{IsLeadingRun}
 use Rattle.fancy_plain.specs.Nfas.{IsRefusedFor}
 use Rattle.fancy_plain.specs.RequiredBytes.{AreRequired}
-use Rattle.fancy_plain.specs.RunFilters.{IsRunFilter}
 use Rattle.fancy_plain.specs.Views.{state_of}
 use Rattle.fancy_plain.proofs.Built.{are_easy, fault_passed, all_states, all_read, one_read}
 use Rattle.fancy_plain.proofs.nfa.Nfa.build_by.Goals as goal
@@ -39,23 +37,11 @@ of-requires c = λ i p at.
     one_read c.args.may_join c.requires.0 c.args.infos.now s c.lay_each.new.self c.in_ok-states.ensures.items
     (c.in_ok-lay_each.ensures c.requires.0 c.requires.1) c.push.new.self.items c.in_ok-push.ensures.items _ c.deref-4.ensures.value i p at
 
-pub of-requires-2 : goal.of-requires-2
-of-requires-2 c = λ i p at.
-    let s : Layout = record { alloc = c.args.alloc; unicode = c.args.unicode; states = c.in_ok-states.states } in
-    one_read c.args.may_join c.requires.0 c.args.infos.now s c.lay_each.new.self c.in_ok-states.ensures.items
-    (c.in_ok-lay_each.ensures c.requires.0 c.requires.1) c.push.new.self.items c.in_ok-push.ensures.items _ c.deref-6.ensures.value i p at
-
-pub of-requires-3 : goal.of-requires-3
-of-requires-3 c = λ i p at.
-    let s : Layout = record { alloc = c.args.alloc; unicode = c.args.unicode; states = c.in_ok-states.states } in
-    one_read c.args.may_join c.requires.0 c.args.infos.now s c.lay_each.new.self c.in_ok-states.ensures.items
-    (c.in_ok-lay_each.ensures c.requires.0 c.requires.1) c.push.new.self.items c.in_ok-push.ensures.items _ c.deref-7.ensures.value i p at
-
 pub seems_one_pass-seems_one_pass-requires : goal.seems_one_pass-seems_one_pass-requires
 seems_one_pass-seems_one_pass-requires c = λ i p at.
     let s : Layout = record { alloc = c.args.alloc; unicode = c.args.unicode; states = c.in_ok-states.states } in
     one_read c.args.may_join c.requires.0 c.args.infos.now s c.lay_each.new.self c.in_ok-states.ensures.items
-    (c.in_ok-lay_each.ensures c.requires.0 c.requires.1) c.push.new.self.items c.in_ok-push.ensures.items _ c.deref-8.ensures.value i p at
+    (c.in_ok-lay_each.ensures c.requires.0 c.requires.1) c.push.new.self.items c.in_ok-push.ensures.items _ c.deref-6.ensures.value i p at
 
 pub returns-clause-nfa : goal.returns-clause-nfa
 returns-clause-nfa c = λ a each fine.
@@ -85,12 +71,6 @@ invariant_of-result c = record {
       c.required_bytes-required_bytes.ensures;
   tables = subst (λ l. AreTables c.args.unicode l c.in_ok-branches.branches) c.deref-4.ensures.value c.in_ok-branches.ensures;
   only = c.only_of-required_byte.ensures;
-  runs =
-      subst (λ l. IfSome c.in_ok-run_filter.run_filter (λ filter. IsRunFilter c.args.unicode (map state_of l) filter.value)) c.deref-6.ensures.value
-      c.in_ok-run_filter.ensures;
-  alternation =
-      subst (λ l. IfSome c.in_ok-branch_filter.branch_filter (λ filter. IsBranchFilter c.args.unicode (map state_of l) filter.value)) c.deref-7.ensures.value
-      c.in_ok-branch_filter.ensures;
   leads =
       subst (λ l. ForSome c.leading_run-leading_run.result (λ at. ∥ IsLeadingRun l at ∥₁)) c.deref-5.ensures.value c.leading_run-leading_run.ensures;
 }
