@@ -10,18 +10,24 @@ use Rattle.fancy_literals.specs.Required as plain_required
 use Rattle.fancy_literals.specs.declared.required.Required.{Required}
 use Rattle.fancy_matches.specs.Listing.{begun_at}
 use Rattle.fancy_matches.proofs.Stepping.{of_same, same_twice}
-use Rattle.fancy_regex.specs.Regexes.{IsSame}
+use Rattle.fancy_regex.specs.Regexes.{FindsWhether, IsSame}
 use Rattle.fancy_regex.specs.declared.error.Error.{Error}
 use Rattle.fancy_regex.specs.declared.regexes.Regex.{Regex}
 use Rattle.fancy_grep.specs.Context.{AreRising, numbers_of}
 use Rattle.fancy_grep.specs.Lines.{Line, line_of, lines, lines_of}
-use Rattle.fancy_grep.specs.Matching.{Grows, Helps, IsRegexFor, StopsAt, TakesLine, has_match, is_selected, selected}
+use Rattle.fancy_grep.specs.Matching.{Grows, Helps, IsRegexFor, StopsAt, TakesLine, TellsMatch, has_match, is_selected, selected}
 use Rattle.fancy_grep.specs.Occurrences.{sought, sought_in}
 use Rattle.fancy_grep.specs.Standing.{IsLineIn}
 use Rattle.fancy_grep.specs.declared.occurrences.Occurrences.{Occurrences}
 use Rattle.fancy_grep.specs.declared.lines.Line as code
 use Rattle.fancy_grep.proofs.LineLaws.{AreCounted, numbered_counts}
 use Rattle.fancy_grep.proofs.StandingLaws.{line_in_text}
+
+-- what a search tells of a line
+pub tells_match : (i : Input) (o : List ℕ → plain.RunOptions) (line : List ℕ) (r : Result Bool Error) →
+    FindsWhether i line (begun_at (o line) 0) r → TellsMatch i o line r
+tells_match i o line (Ok found) h = h
+tells_match i o line (Err e) h = h
 
 -- ---- the regex stays the same
 

@@ -44,7 +44,7 @@ returns-in-Ok-new c =
     let as_compiled = c.compilation.ensures ∙ ap asked.compilation c.request-request.ensures in
     subst (Explains bytes o) (sym c.new-in-Ok-new.ensures.bytes)
     (has_program c.in-Ok.ensures.1 c.in-Ok.ensures.2 tree c.in-Ok-new.field-0 read
-    c.in_default-check_analysis.ensures
+    c.in_default.ensures
     (compiled_by tree o c.analysis.result c.compilation.result as_analysed as_compiled c.in-Ok-new.field-0 c.in-Ok-new.ensures.made)
     (within_by tree o c.analysis.result c.compilation.result as_analysed as_compiled c.in-Ok-new.ensures.within))
 
@@ -58,5 +58,5 @@ returns c =
     let as_analysed = c.analysis.ensures ∙ ap asked.analysis c.request-request.ensures in
     let as_compiled = c.compilation.ensures ∙ ap asked.compilation c.request-request.ensures in
     said_by c.explained.result (λ text. string_bytes text) (explanation e) (Explains bytes o) c.explained.ensures
-    (refused c.in-Ok.ensures.1 c.in-Ok.ensures.2 tree e read c.in_default-check_analysis.ensures
+    (refused c.in-Ok.ensures.1 c.in-Ok.ensures.2 tree e read c.in_default.ensures
     (refused_by tree o c.analysis.result c.compilation.result as_analysed as_compiled e c.in-Err-new.ensures.made))

@@ -32,7 +32,7 @@ returns-in_err-check_analysis c =
     let bytes = c.args.pattern.now in
     let o = c.args.options.now in
     let tree = c.in-Ok.tree in
-    let p = err_from_is_err_and c.from_residual-2.result c.from_residual-2.ensures.1 in
+    let p = err_from_is_err_and c.from_residual-in_err-check_analysis.result c.from_residual-in_err-check_analysis.ensures.1 in
     rw (p.1, p.2) (fails c.in_ok-text.ensures.1 c.in_ok-text.ensures.2
     (unanalysed tree (read_so bytes o tree c.in_ok-text.text.now c.parsing.result c.in_ok-text.ensures.0 c.parsing.ensures c.in-Ok.ensures.answer)
     c.in_err-check_analysis.ensures))
