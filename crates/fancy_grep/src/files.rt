@@ -3,12 +3,14 @@
 use crate::excerpt::push_excerpt;
 use crate::matching::Failure;
 use crate::output::Output;
-use crate::patterns::{Matcher, PatternOptions, matcher_of};
+use crate::patterns::{Extent, Matcher, PatternOptions, matcher_of};
 use crate::reports::{Part, Search};
 use crate::settings::{Report, Settings};
 use fancy_input::blocks::{BlockError, Blocks};
 use fancy_input::marks::TextReader;
 use fancy_input::pieces::{Piece, read_as, split_piece};
+use fancy_pattern::error::PatternError;
+use fancy_pattern::pattern::parse_tree;
 use fancy_regex::Error;
 use memchr::memchr;
 use std::alloc::AllocError;
@@ -325,6 +327,22 @@ fn placed(pattern: &str, options: PatternOptions, error: Error) -> (Error, Optio
     }
 }
 
+/// The fault that the pattern has by itself, which what is put around it could hide.
+fn fault_alone(
+    rt: &HostRuntime,
+    pattern: &str,
+    options: PatternOptions,
+) -> Result<Option<Error>, AllocError> {
+    if options.is_text {
+        return Ok(None);
+    }
+    match parse_tree(rt.alloc(), pattern, options.parsing()) {
+        Ok(_) => Ok(None),
+        Err(PatternError::Memory) => Err(AllocError),
+        Err(error) => Ok(Some(Error::from(error))),
+    }
+}
+
 /// Reports on standard error why there is no regex of the pattern. The place of a fault is in bytes of the pattern as it was
 /// given, and shown below it.
 fn refuse(
@@ -349,6 +367,13 @@ fn search_all(
     settings: &Settings<'_>,
     paths: &[&str],
 ) -> Result<u8, AllocError> {
+    if let Some(error) = fault_alone(rt, pattern, settings.pattern)? {
+        let alone = PatternOptions {
+            extent: Extent::Part,
+            ..settings.pattern
+        };
+        return refuse(rt, pattern, alone, error);
+    }
     let matcher = match matcher_of(rt.alloc(), pattern, settings.pattern) {
         Ok(matcher) => matcher,
         Err(error) => return refuse(rt, pattern, settings.pattern, error),

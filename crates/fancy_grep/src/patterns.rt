@@ -61,7 +61,7 @@ impl PatternOptions {
     ghost use Rattle.fancy_grep.specs.RegexOptions.{options_for};
 
     /// How the pattern is read to a tree.
-    fn parsing(self) -> ParseOptions
+    pub(crate) fn parsing(self) -> ParseOptions
         ensures { result ≡ (options_for self).parsing }
     {
         ParseOptions {
