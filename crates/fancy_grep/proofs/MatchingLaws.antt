@@ -26,7 +26,7 @@ use Rattle.fancy_grep.proofs.StandingLaws.{line_in_text}
 -- what a search tells of a line
 pub tells_match : (i : Input) (o : List ℕ → plain.RunOptions) (line : List ℕ) (r : Result Bool Error) →
     FindsWhether i line (begun_at (o line) 0) r → TellsMatch i o line r
-tells_match i o line (Ok found) h = h
+tells_match i o line (Ok found) h = h.1
 tells_match i o line (Err e) h = h
 
 -- ---- the regex stays the same

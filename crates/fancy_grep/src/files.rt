@@ -9,7 +9,6 @@ use crate::settings::{Report, Settings};
 use fancy_input::blocks::{BlockError, Blocks};
 use fancy_input::marks::TextReader;
 use fancy_input::pieces::{Piece, read_as, split_piece};
-use fancy_pattern::error::PatternError;
 use fancy_pattern::pattern::parse_tree;
 use fancy_regex::Error;
 use memchr::memchr;
@@ -328,18 +327,13 @@ fn placed(pattern: &str, options: PatternOptions, error: Error) -> (Error, Optio
 }
 
 /// The fault that the pattern has by itself, which what is put around it could hide.
-fn fault_alone(
-    rt: &HostRuntime,
-    pattern: &str,
-    options: PatternOptions,
-) -> Result<Option<Error>, AllocError> {
+fn fault_alone(rt: &HostRuntime, pattern: &str, options: PatternOptions) -> Option<Error> {
     if options.is_text {
-        return Ok(None);
+        return None;
     }
     match parse_tree(rt.alloc(), pattern, options.parsing()) {
-        Ok(_) => Ok(None),
-        Err(PatternError::Memory) => Err(AllocError),
-        Err(error) => Ok(Some(Error::from(error))),
+        Ok(_) => None,
+        Err(error) => Some(Error::from(error)),
     }
 }
 
@@ -367,7 +361,7 @@ fn search_all(
     settings: &Settings<'_>,
     paths: &[&str],
 ) -> Result<u8, AllocError> {
-    if let Some(error) = fault_alone(rt, pattern, settings.pattern)? {
+    if let Some(error) = fault_alone(rt, pattern, settings.pattern) {
         let alone = PatternOptions {
             extent: Extent::Part,
             ..settings.pattern
