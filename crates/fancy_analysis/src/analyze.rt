@@ -49,7 +49,7 @@ fn as_root<'a>(info: Info<'a>, context: AnalyzeContext) -> Info<'a>
 ///
 /// `tree` has passed `is_well_formed`. The answer is the root; `Info::children` leads to every other node. A tree is
 /// refused as `Error::CompileError` where a case of a refusal holds, as `NeverEndingRecursion` only where no other
-/// does. Want of memory is `Error::Memory`.
+/// does. Out of memory is `Error::Memory`.
 pub fn analyze<'a>(
     alloc: Global,
     tree: &'a ExprTree,

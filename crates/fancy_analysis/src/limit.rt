@@ -49,7 +49,7 @@ fn rounds_within(expr: &Expr, limit: usize) -> usize
     }
 }
 
-/// Whether no more than `most` rounds find a target that can end, where these are the sizes by number.
+/// Whether at most `most` rounds find a target that can end, where these are the sizes by number.
 fn are_few_endings(
     alloc: Global,
     expr: &Expr,
@@ -72,7 +72,7 @@ fn are_few_endings(
     Ok(ends_within(alloc, &root, most)?.is_some())
 }
 
-/// Whether no more than `most` rounds change something.
+/// Whether at most `most` rounds change something.
 fn are_few_rounds(alloc: Global, tree: &ExprTree, most: usize) -> Result<bool, AllocError>
     requires groups { tree.now.total_groups ≡ group_count (tree_of tree.now.expr) }
     requires bound { tree.now.total_groups ≤ most_groups }
@@ -91,7 +91,7 @@ fn are_few_rounds(alloc: Global, tree: &ExprTree, most: usize) -> Result<bool, A
     }
 }
 
-/// The analysis of the tree looks at no more than so many nodes in rounds that change something.
+/// The analysis of the tree looks at `most` nodes at most in rounds that change something.
 ///
 /// The nodes of the tree count once for each round in which the size of a group changes, if a back reference or a call
 /// names a group, and once for each round in which a further group is found to be able to end, if there is a call. Groups

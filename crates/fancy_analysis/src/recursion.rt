@@ -69,7 +69,7 @@ fn describe(
 /// The description of the least target that is reached and from which calls before which nothing is taken lead into a
 /// cycle.
 ///
-/// `root` is the root of an analysed tree. Want of memory is `Error::Memory`.
+/// `root` is the root of an analysed tree. Out of memory is `Error::Memory`.
 pub(crate) fn left_recursion(
     alloc: Global,
     root: &Info,

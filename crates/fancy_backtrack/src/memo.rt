@@ -121,7 +121,7 @@ impl Memo {
     }
 
     /// The next searches may each take up so many states, and hold so many bytes with what earlier ones memoized. A
-    /// search that goes past that ends as where memory is refused; `visits` and `bytes` then say which it was.
+    /// search that goes past that ends as if an allocation fails; `visits` and `bytes` then say which it was.
     pub fn limit(&mut self, budget: Budget)
         ensures budget { self.new.budget ≡ budget }
         ensures failed { (failed : plain.Pair → Bool) → HaveFailed self.old failed

@@ -83,7 +83,7 @@ fn status(written: bool, wanted: u8) -> u8
     if written { wanted } else { 3 }
 }
 
-/// Writes the line of an error: its name, or that memory ran out where there is none for the name.
+/// Writes the line of an error: its name, or `Memory` if there is no memory for the name.
 fn report<O: Write>(alloc: Global, error: &Error, out: &mut O) -> u8
     ensures { WritesError (O.contents out.old) (O.contents out.new) error.now result }
 {
@@ -94,7 +94,7 @@ fn report<O: Write>(alloc: Global, error: &Error, out: &mut O) -> u8
 }
 
 /// Searches as the words after the program's own name ask: TREE in the notation, TEXT, and then a place, a byte of
-/// TEXT, and options. Answers the status.
+/// TEXT, and options. Returns the status.
 ///
 /// The answer is written on `out` with status 0: start and end of each group in bytes of TEXT, or `none`. A refusal
 /// is written there by its name with status 1; a TREE that nests deeper than `MOST_DEPTH` is not read, and its refusal

@@ -109,7 +109,7 @@ pub fn error_line(alloc: Global, error: &Error) -> Result<String, AllocError>
     Ok(line)
 }
 
-/// The line of a refusal for want of memory, which takes none.
+/// The line of `Memory`, which needs no memory.
 pub fn memory_line() -> &'static [u8]
     ensures { result.now ≡ printed.error_line error.Memory }
 {

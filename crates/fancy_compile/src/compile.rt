@@ -167,8 +167,8 @@ fn finish(writer: CodeWriter, info: &Info, options: CompileOptions) -> Result<Pr
 /// absent part but a repeater, and one in the hard body of a repeater; as `VariableLookBehindRequiresFeature` a look-behind of no constant
 /// size; as `SubroutineCallTargetNotFound` a call of a group that is not there; as `InnerError` or `ClassTooBig` a class text that `regex`
 /// refuses. `FeatureNotYetSupported` is also any bytes mode but `Unicode`, and `PatternTooComplex` an instruction more than `max_prog_size`.
-/// More nodes in one another than `max_nesting` are `Error::NestLimitExceeded`: the parts of a node that are written out stand in it, and what
-/// a call names stands in the call, as long as fewer than 19 calls of the group are open. Want of memory is `Error::Memory`.
+/// More nodes in one another than `max_nesting` are `Error::NestLimitExceeded`: the parts of a node that are written out are in it, and what
+/// a call names is in the call, as long as fewer than 19 calls of the group are open. Out of memory is `Error::Memory`.
 pub fn compile(alloc: Global, info: &Info, options: CompileOptions) -> Result<Prog, Error>
     requires { (a : Analysed) × MayCompile a info.now options }
     ensures { (a : Analysed)

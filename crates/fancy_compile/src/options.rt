@@ -17,7 +17,7 @@ pub struct CompileOptions {
     pub anchored: bool,
     /// Changes nothing.
     pub contains_subroutines: bool,
-    /// A match that takes nothing at the end of the text, after a newline, is refused.
+    /// An empty match at the end of the text, after a newline, is refused.
     pub disallow_empty_match_at_eof_after_newline: bool,
     /// Any other than `Unicode` is refused.
     pub bytes_mode: BytesMode,

@@ -1,4 +1,4 @@
-//! The errors of the engine: why a tree is not read or refused, which limit a run passed, want of memory.
+//! The errors of the engine: why a tree is not read or refused, which limit a run exceeded, out of memory.
 
 ghost use Rattle.std.specs.Prelude.{◌≡◌};
 ghost use Rattle.fancy_expr.specs.declared.error.Error.TheVariants.{Memory};
@@ -59,10 +59,10 @@ pub enum Error {
     /// The notation of a tree cannot be read from this byte on.
     #[error("the tree cannot be read at byte {at}")]
     TreeFault { at: usize },
-    /// More nodes stand in one another, where they are written out, than the limit allows.
+    /// More nodes nest in one another, with calls written out, than the limit allows.
     #[error("the tree nests deeper than the limit")]
     NestLimitExceeded,
-    /// A request for memory was refused.
+    /// An allocation failed.
     #[error("memory ran out")]
     Memory,
 }

@@ -17,7 +17,7 @@ impl Expr {
     /// less than `precedence`, it stands in brackets: an alternation from 1 on, a sequence from 2 on, a repetition from
     /// 3 on.
     ///
-    /// Want of memory is `Error::Memory`; nothing else is refused.
+    /// Out of memory is `Error::Memory`; nothing else is refused.
     pub fn to_str(&self, alloc: Global, precedence: u8) -> Result<String, Error>
         ensures { MatchResult
             result

@@ -68,7 +68,7 @@ impl Fragment {
     /// The fragment of neighbouring nodes of one analysed tree, none of them hard.
     ///
     /// A class text that `regex` excludes is refused as `InnerError` or `ClassTooBig`, but not in a loop that is never
-    /// entered or in a DEFINE, which are not written out. Want of memory is `Error::Memory`.
+    /// entered or in a DEFINE, which are not written out. Out of memory is `Error::Memory`.
     pub fn build(alloc: Global, infos: &[Info], unicode: bool) -> Result<Fragment, Error>
         requires { AreEasyNeighbours infos.now }
         ensures fragment { IfOk result (λ f. fragment_of f

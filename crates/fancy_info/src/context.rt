@@ -7,9 +7,9 @@ ghost use Rattle.std.specs.Prelude.{◌≡◌, false};
 pub struct AnalyzeContext {
     /// The first group has number 0, and not 1.
     pub explicit_capture_group_0: bool,
-    /// A match that takes nothing may be refused.
+    /// An empty match may be refused.
     pub find_not_empty: bool,
-    /// A match that takes nothing at the end of the text, after a newline, may be refused.
+    /// An empty match at the end of the text, after a newline, may be refused.
     pub disallow_empty_match_at_eof_after_newline: bool,
     /// The longest match at the earliest start may be asked for, and not the first.
     pub leftmost_longest: bool,

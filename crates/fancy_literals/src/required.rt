@@ -24,7 +24,7 @@ pub enum Required {
 /// the fewest bytes; none where nothing is known.
 ///
 /// A text without it has no match, wherever a search begins. What a look-around asks for counts too. The only error is
-/// want of memory.
+/// out of memory.
 pub fn required_by(
     alloc: Global,
     expr: &Expr,

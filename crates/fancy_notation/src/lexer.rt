@@ -246,7 +246,7 @@ impl Lexer {
 }
 
 /// The tokens of a text in the notation, each with the byte at which it begins; a malformed quoted text is the last one.
-/// Want of memory is `Error::Memory`.
+/// Out of memory is `Error::Memory`.
 pub fn tokens(alloc: Global, text: &str) -> Result<Vec<Placed>, Error>
     ensures { MatchResult result (λ found. all_placed found.items ≡ tokens_of text.now)
         (λ e. e ≡ Memory) }

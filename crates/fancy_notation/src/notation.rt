@@ -21,7 +21,7 @@ use std::collections::{BTreeMap, BTreeSet};
 /// The tree that a text in the notation spells, and what comes with it ("docs/MEANING.md" has the notation).
 ///
 /// The tree passes `is_well_formed`. Where the text spells no tree, `Error::TreeFault` has the byte at which the first
-/// token begins that cannot stand where it stands, or the text's length where more is needed. Want of memory is
+/// token begins that is not allowed where it is, or the text's length if more is needed. Out of memory is
 /// `Error::Memory`.
 pub fn read_tree(alloc: Global, text: &str) -> Result<ExprTree, Error>
     ensures answer { MatchResult

@@ -26,7 +26,7 @@ pub(crate) fn fault_at(kind: ErrorKind, text: &[char]) -> Fault
 pub enum PatternError {
     /// The pattern cannot be read: the byte of the fault, and what is wrong there.
     Parse { at: usize, kind: ErrorKind },
-    /// A request for memory was refused.
+    /// An allocation failed.
     Memory,
 }
 

@@ -31,7 +31,7 @@ fn push_escaped(out: &mut String, c: char) -> Result<(), AllocError>
 /// A pattern that spells the literals of the text, whatever flags hold.
 ///
 /// A backslash stands before each of `\.+*?()|[]{}^$#` and before space, tab, LF and CR. The answer is new text in
-/// UTF-8. Want of memory is the only error.
+/// UTF-8. The only error is out of memory.
 pub fn escape(alloc: Global, text: &str) -> Result<String, AllocError>
     ensures value { IfOk result (λ s. string_bytes s
         ≡ encode_utf8_all (escaped (chars text.now))) }

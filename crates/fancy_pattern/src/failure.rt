@@ -1,4 +1,4 @@
-//! Why a call of the parser has no result: a fault, or want of memory.
+//! Why a call of the parser has no result: a fault, or out of memory.
 
 ghost use Rattle.std.specs.Prelude.{◌≡◌};
 ghost use Rattle.fancy_pattern.specs.declared.failure.Failure.TheVariants.{Memory};

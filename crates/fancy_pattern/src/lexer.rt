@@ -107,7 +107,7 @@ impl<'a> Lexer<'a> {
         Ok(true)
     }
 
-    /// Goes past the token at the front, and answers whether the text goes on.
+    /// Goes past the token at the front, and returns whether the text goes on.
     fn pass(
         &mut self,
         kept: Kept<'a>,
@@ -136,7 +136,7 @@ impl<'a> Lexer<'a> {
         }
     }
 
-    /// Goes past the token at the front, and answers whether the text goes on.
+    /// Goes past the token at the front, and returns whether the text goes on.
     fn next_token(&mut self) -> Result<bool, AllocError>
         requires { IsAtToken (state_of self.old) (text_of self.old) }
         ensures steps { IfOk result (λ more. Steps more self.old self.new) }
@@ -152,7 +152,7 @@ impl<'a> Lexer<'a> {
         }
     }
 
-    /// Goes past the parenthesis at the front that ends a group, and answers whether the text goes on.
+    /// Goes past the parenthesis at the front that ends a group, and returns whether the text goes on.
     #[inline(always)]
     fn pass_closing(&mut self, after: &'a [char]) -> Result<bool, AllocError>
         requires token { IsAtToken (state_of self.old) (text_of self.old) }
@@ -179,7 +179,7 @@ impl<'a> Lexer<'a> {
         }
     }
 
-    /// Goes past the parenthesis at the front that begins a plain group, and answers whether the text goes on.
+    /// Goes past the parenthesis at the front that begins a plain group, and returns whether the text goes on.
     #[inline(always)]
     fn pass_group(&mut self, after: &'a [char]) -> Result<bool, AllocError>
         requires token { IsAtToken (state_of self.old) (text_of self.old) }
@@ -206,7 +206,7 @@ impl<'a> Lexer<'a> {
         }
     }
 
-    /// Goes past the gap or the token at the front, and answers whether the text goes on.
+    /// Goes past the gap or the token at the front, and returns whether the text goes on.
     #[inline(never)]
     fn next_other(&mut self) -> Result<bool, AllocError>
         ensures steps { IfOk result (λ more. Steps more self.old self.new) }
@@ -254,7 +254,7 @@ impl<'a> Lexer<'a> {
         Ok(())
     }
 
-    /// Goes past what is at the front, and answers whether the text goes on; most tokens are found at once.
+    /// Goes past what is at the front, and returns whether the text goes on; most tokens are found at once.
     #[inline(always)]
     fn next(&mut self) -> Result<bool, AllocError>
         ensures steps { IfOk result (λ more. Steps more self.old self.new) }

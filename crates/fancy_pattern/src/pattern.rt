@@ -34,9 +34,9 @@ use std::collections::BTreeSet;
 /// The tree that a pattern spells, and what comes with it. The tree passes `is_well_formed`.
 ///
 /// Where the pattern spells none, `PatternError::Parse` has the byte and the kind of its first fault: where a token begins
-/// that cannot stand there, where what follows cannot be read as a token, or the pattern's length where more is needed.
+/// that cannot stand there, where what follows cannot be read as a token, or the pattern's length if more is needed.
 /// A call of a name that several groups have is a fault at the byte where the name begins, and so is a reference to a
-/// name that more than 100 groups have, or a condition on one. Want of memory is `PatternError::Memory`.
+/// name that more than 100 groups have, or a condition on one. Out of memory is `PatternError::Memory`.
 pub fn parse_tree(
     alloc: Global,
     pattern: &str,

@@ -165,7 +165,7 @@ pub(crate) fn follow(states: &[NfaState], reached: &mut [u8]) {
     }
 }
 
-/// Adds what the state at `at` leads to, and answers whether that was news of a state that was gone through.
+/// Adds what the state at `at` leads to, and returns whether that was news of a state that was gone through.
 fn add_next(nfa_state: &NfaState, at: usize, counter: u8, reached: &mut [u8]) -> bool
     requires { at < usize.MAX }
 {
@@ -199,7 +199,7 @@ fn add_both(reached: &mut [u8], at: usize, to: (usize, usize), counter: u8) -> b
     first || second
 }
 
-/// Adds the state with this counter, and answers whether that was news. A state with two counters may have any.
+/// Adds the state with this counter, and returns whether that was news. A state with two counters may have any.
 pub(crate) fn add(reached: &mut [u8], at: usize, counter: u8) -> bool {
     if at >= reached.len() || counter == 0 || covers(reached, at, counter) {
         return false;

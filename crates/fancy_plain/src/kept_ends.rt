@@ -103,7 +103,7 @@ impl KeptEnds {
         if self.has_passage_in(place / BLOCK) {
             return;
         }
-        // where memory is refused, it is not noted
+        // if an allocation fails, it is not noted
         let Ok(()) = self.passages.push(Passage { state, place }) else {
             return;
         };
@@ -149,7 +149,7 @@ impl KeptEnds {
         false
     }
 
-    /// Keeps this for the block of its place. Where memory is refused it is not kept.
+    /// Keeps this for the block of its place. If an allocation fails, it is not kept.
     pub(crate) fn keep(&mut self, kept: KeptEnd)
         ensures ends { (text : List ℕ) (unicode : Bool) (states : List NfaState)
             → EndsFrom text unicode states kept.state kept.place kept.end

@@ -127,7 +127,7 @@ impl KeptRuns {
         KeptRun::none_at(place)
     }
 
-    /// Keeps this run for the state in place of the last one, if it is long. Where memory is refused it is not kept.
+    /// Keeps this run for the state in place of the last one, if it is long. If an allocation fails, it is not kept.
     #[inline(always)]
     fn keep(&mut self, state: usize, run: KeptRun)
         ensures { (text : List ℕ) (unicode : Bool) (states : List nfa_states.NfaState)

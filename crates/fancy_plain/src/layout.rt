@@ -304,7 +304,7 @@ impl Layout {
         Ok(())
     }
 
-    /// Lays out a branch before others, and answers where its jump to the end stands, which has no target yet.
+    /// Lays out a branch before others, and returns where its jump to the end stands, which has no target yet.
     #[cycle(lay)]
     fn lay_branch(&mut self, is_first: bool, info: &Info, may_join: bool) -> Result<usize, Error>
         requires { IsEasyNode info.now }

@@ -90,7 +90,7 @@ impl Nfa {
     /// The NFA of neighbouring nodes of one analysed tree, none of them hard.
     ///
     /// A class text that `regex` excludes is refused as `InnerError` or `ClassTooBig`, but not in a loop that is never
-    /// entered or in a DEFINE, which are not written out. Want of memory is `Error::Memory`.
+    /// entered or in a DEFINE, which are not written out. Out of memory is `Error::Memory`.
     pub fn build(alloc: Global, infos: &[Info], unicode: bool) -> Result<Nfa, Error>
         requires { AreNeighbours infos.now }
         ensures nfa { IfOk result (λ f. (a : Analysis)

@@ -108,7 +108,7 @@ impl CharTest {
         }
     }
 
-    /// Past the character at `ix`, if it passes. `Memory` where a request for memory was refused.
+    /// Past the character at `ix`, if it passes. `Memory` where an allocation failed.
     #[inline(always)]
     pub(crate) fn past(
         &self,
@@ -180,7 +180,7 @@ fn past_one(text: &[u8], unicode: bool, c: char, casei: bool, ix: usize) -> Opti
     }
 }
 
-/// Past one character of the class. `Memory` where a request for memory was refused.
+/// Past one character of the class. `Memory` where an allocation failed.
 fn past_class(
     alloc: Global,
     class: &CharClassMatcher,

@@ -37,7 +37,7 @@ fn lost_visits(is_untried: bool) -> u64
 }
 
 impl Searcher<'_> {
-    /// Searches from this configuration on. It gives up, as where memory is refused, where it takes up more states than
+    /// Searches from this configuration on. It gives up, as if an allocation fails, where it takes up more states than
     /// the memo's budget allows, and after 2^64 - 1 steps, more than any machine takes.
     pub(crate) fn find(
         &self,

@@ -79,7 +79,7 @@ pub enum Insn {
         next: usize,
         repeat: usize,
     },
-    /// The head of a greedy loop without a bound, which an iteration that takes nothing leaves: `check` is the slot of
+    /// The head of a greedy loop without a bound, which an iteration that matches the empty string leaves: `check` is the slot of
     /// the place where the iteration began.
     RepeatEpsilonGr {
         lo: usize,

@@ -129,7 +129,7 @@ fn figures_of(alloc: Global, expr: &Expr, names: &GroupNames) -> Result<Vec<Figu
 
 /// The tree as a railroad diagram: a document in SVG, with the title at its head. The diagram is as long as the tree.
 ///
-/// `TooLarge` where the tree has more than `MOST_NODES` nodes, and `Memory` where a request for memory was refused.
+/// `TooLarge` where the tree has more than `MOST_NODES` nodes, and `Memory` where an allocation failed.
 pub fn draw(alloc: Global, tree: &ExprTree, title: &str) -> Result<String, DrawError>
     ensures { MatchResult
         result

@@ -10,7 +10,7 @@ pub struct GroupNames {
 }
 
 impl GroupNames {
-    /// The names of these numbers, as in `named_groups` of an `ExprTree`. Fails for want of memory alone.
+    /// The names of these numbers, as in `named_groups` of an `ExprTree`. Fails only if an allocation fails.
     pub fn new(
         alloc: Global,
         numbers: &BTreeMap<String, Vec<usize>>,

@@ -1,4 +1,4 @@
-//! Slots, an explicit stack and branches that a run can fall back to.
+//! Slots, an explicit stack and branches that a run can backtrack to.
 #![tactic(auto)]
 
 mod old_values;

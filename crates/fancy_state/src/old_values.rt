@@ -15,7 +15,7 @@ pub(crate) struct Old {
     before: u32,
 }
 
-/// There are never more cells: what would need more counts as want of memory, since these take 64 GiB.
+/// There are never more cells: what would need more counts as out of memory, since these take 64 GiB.
 const MOST_CELLS: usize = 1 << 32;
 
 /// Cells, and a log of what they held before they were changed.

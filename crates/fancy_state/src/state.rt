@@ -1,4 +1,4 @@
-//! Slots, an explicit stack, and the branches that a run can fall back to.
+//! Slots, an explicit stack, and the branches that a run can backtrack to.
 
 ghost use Rattle.std.specs.Prelude.{◌≡◌, ◌+◌, ◌-◌, ◌<◌, ◌≤◌, [], ◌∷◌, None, Some, min, nat_le, nat_lt, length, drop, take, reverse, slice_index, slice_set, IfOk, OnOk, OnErr, IfErr, MatchOption};
 ghost use Rattle.fancy_state.specs.Held.{below, state_bytes, first_state, held_branch};
@@ -16,7 +16,7 @@ const BRANCH: usize = 24;
 /// How many bytes a change holds that is logged.
 const CHANGE: usize = 16;
 
-/// What a failure falls back to.
+/// What a failure backtracks to.
 #[derive(Drop)]
 pub(crate) struct Branch {
     pc: usize,
@@ -139,7 +139,7 @@ impl State {
     }
 
     /// Adds a branch at a place of the program and a byte of the text; it keeps the slots and the explicit stack.
-    /// `StackOverflow` exactly where `max_stack` branches are held, and `Memory` where a request for memory was refused;
+    /// `StackOverflow` exactly where `max_stack` branches are held, and `Memory` where an allocation failed;
     /// the state is then as before.
     pub fn push(&mut self, pc: usize, ix: usize) -> Result<(), Error>
         ensures room { OnOk result (length self.old.held.branches < self.old.held.max_stack) }
@@ -195,7 +195,7 @@ impl State {
         (pc, ix)
     }
 
-    /// Sets a slot, one of the first `n_saves`. `Memory` where a request for memory was refused; the state is then as
+    /// Sets a slot, one of the first `n_saves`. `Memory` where an allocation failed; the state is then as
     /// before.
     pub fn save(&mut self, slot: usize, value: usize) -> Result<(), Error>
         requires { slot < length self.old.held.slots }
@@ -241,7 +241,7 @@ impl State {
         Ok(())
     }
 
-    /// Adds an entry to the explicit stack. `Memory` where a request for memory was refused; the state is then as before.
+    /// Adds an entry to the explicit stack. `Memory` where an allocation failed; the state is then as before.
     pub fn stack_push(&mut self, value: usize) -> Result<(), Error>
         ensures ok { OnOk result
             (self.new.held ≡ record self.old.held { stack = value ∷ self.old.held.stack }) }
@@ -268,7 +268,7 @@ impl State {
         Ok(())
     }
 
-    /// Takes the last entry off the explicit stack. There has to be one. `Memory` where a request for memory was refused;
+    /// Takes the last entry off the explicit stack. There has to be one. `Memory` where an allocation failed;
     /// the state is then as before.
     pub fn stack_pop(&mut self) -> Result<usize, Error>
         requires { 0 < length self.old.held.stack }

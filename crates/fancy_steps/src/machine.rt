@@ -67,7 +67,7 @@ pub enum Next {
     On,
     /// Starts were passed over.
     Passed,
-    /// The machine is to fall back to the last branch. No step answers so, but a part of one.
+    /// The machine is to backtrack to the last branch. No step answers so, but a part of one.
     Fails,
     /// The match of the machine's slots is answered.
     Matches,
@@ -75,7 +75,7 @@ pub enum Next {
     Ends,
 }
 
-/// Why a run stops without an answer: it passed a limit, or a request for memory was refused.
+/// Why a run stops without an answer: it exceeded a limit, or an allocation failed.
 #[derive(Clone, Copy)]
 pub enum Stop {
     Limit(RuntimeError),
@@ -198,7 +198,7 @@ impl<'a> Machine<'a> {
         self.state.get(slot)
     }
 
-    /// The step is to fall back, which all steps do at one place (`fall_back`).
+    /// The step is to backtrack, which all steps do at one place (`fall_back`).
     #[inline(always)]
     pub(crate) fn fail(&mut self) -> Result<Next, Stop>
         ensures task { self.new.task ≡ self.old.task }
@@ -208,7 +208,7 @@ impl<'a> Machine<'a> {
         Ok(Next::Fails)
     }
 
-    /// Falls back to the last branch.
+    /// Backtracks to the last branch.
     #[inline(always)]
     pub(crate) fn fall_back(&mut self) -> Result<Next, Stop>
         ensures task { self.new.task ≡ self.old.task }

@@ -116,7 +116,7 @@ fn take_out(by_place: &mut Vec<Option<RunMemo>>, pc: usize) -> Option<RunMemo>
     by_place[pc].take()
 }
 
-/// What is kept of a fragment's searches, with where the last one of this memo ended. Where memory is refused nothing is kept.
+/// What is kept of a fragment's searches, with where the last one of this memo ended. If an allocation fails, nothing is kept.
 #[inline(never)]
 fn with_end(
     task: &Task<'_>,
@@ -299,7 +299,7 @@ impl Memos {
     }
 
     /// The first way from `ix` of the fragment at `pc` of the program: by one pass, or else by a search with what earlier
-    /// ones have noted in this run. Its groups are held. It is not known where memory is refused or visits are too many.
+    /// ones have noted in this run. Its groups are held. It is not known if an allocation fails or visits are too many.
     pub fn held_way(
         &mut self,
         task: &Task<'_>,

@@ -21,7 +21,7 @@ pub struct RunOptions {
     /// Of the matches at the earliest start that has one, the longest in bytes is answered, and of several that are as
     /// long the first; where this is not set, the first of all.
     pub leftmost_longest: bool,
-    /// How often a run may fall back to a branch.
+    /// How often a run may backtrack to a branch.
     pub backtrack_limit: usize,
     /// How many instructions a run may execute.
     pub step_limit: u64,

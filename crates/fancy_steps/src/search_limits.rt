@@ -54,7 +54,7 @@ impl SearchLimits {
         }
     }
 
-    /// The limit that is passed by such a cost, that on visits where both are.
+    /// The limit that is exceeded by such a cost, that on visits where both are.
     #[inline(always)]
     pub fn passed_by(&self, cost: SearchCost) -> Option<SearchLimit>
         ensures { result ≡ passed_by self.now cost }
@@ -114,7 +114,7 @@ impl SearchCost {
     }
 
     /// The first way from `ix` of the fragment, by what this memo has noted and within what the limits leave, which adds to
-    /// the cost. It is `Memory` where a limit is passed.
+    /// the cost. It is `Memory` if a limit is exceeded.
     #[inline(always)]
     pub(crate) fn first_way(
         &mut self,

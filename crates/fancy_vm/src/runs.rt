@@ -31,7 +31,7 @@ use fancy_steps::search_limits::{SearchCost, SearchLimit, SearchLimits};
 use std::alloc::Global;
 
 /// Memory that runs use again, of this allocator, and how much the delegates of a run may take. No answer depends on
-/// it: a run that passes a limit has none.
+/// it: a run that exceeds a limit has none.
 pub struct Scratch {
     limits: SearchLimits,
     room: Room,
@@ -126,7 +126,7 @@ impl Scratch {
 /// these are the numbers of the first admitted way that the tree has in the text, or of the longest one where
 /// `leftmost_longest` asks for it.
 ///
-/// A `RuntimeError` tells which limit was passed. `Memory` tells that a request for memory was refused, or that a limit
+/// A `RuntimeError` tells which limit was exceeded. `Memory` tells that an allocation failed, or that a limit
 /// of the scratch was passed, which the scratch then names. The scratch may be used again after either. Where the whole
 /// tree is easy, limits of one backtrack and eight instructions for each start are never passed.
 pub fn run(
@@ -152,7 +152,7 @@ pub fn run(
     Ok(Some(numbers))
 }
 
-/// As `run`, but it answers whether there is a match, and writes its numbers over these, in the memory that they have.
+/// As `run`, but it returns whether there is a match, and writes its numbers over these, in the memory that they have.
 /// Without a match, and with an error, nothing is said of the numbers.
 pub fn run_into(
     alloc: Global,
@@ -235,7 +235,7 @@ pub fn run_default(
     run(alloc, prog, text, &RunOptions::from_pos(pos), &mut scratch)
 }
 
-/// The run ended for want of memory.
+/// The run ended because it was out of memory.
 #[inline(always)]
 fn wants_memory<T>(answer: &Result<T, Error>) -> bool {
     matches!(answer, Err(Error::Memory))
@@ -352,7 +352,7 @@ impl Room {
         answer
     }
 
-    /// What the machine of the task begins with, in the memory that is there. `Memory` too where the run passed a limit
+    /// What the machine of the task begins with, in the memory that is there. `Memory` too where the run exceeded a limit
     /// before it came to the machine.
     #[inline(always)]
     fn renew(&mut self, task: &Task<'_>) -> Result<(), Error>
@@ -440,7 +440,7 @@ impl Room {
         }
     }
 
-    /// Keeps the memory of a run for the next one. Where it ended for want of memory, and could have added no branch for
+    /// Keeps the memory of a run for the next one. Where it ended because it was out of memory, and could have added no branch for
     /// the limit on bytes, its bytes count, so that this limit is told.
     #[inline(always)]
     fn keep(&mut self, m: Machine<'_>, wants_memory: bool)

@@ -55,7 +55,7 @@ pub enum Progress<'a> {
 impl<'a> Stepper<'a> {
     ghost use Rattle.fancy_vm.specs.StepperSteps.{StepsTo};
 
-    /// At the start of the run that `run` makes of these. `Memory` where a request for memory was refused.
+    /// At the start of the run that `run` makes of these. `Memory` where an allocation failed.
     pub fn new(
         alloc: Global,
         prog: &'a Prog,
@@ -96,7 +96,7 @@ impl<'a> Stepper<'a> {
         self.machine.ix
     }
 
-    /// How many branches it can fall back to.
+    /// How many branches it can backtrack to.
     pub fn branches(&self) -> usize
         ensures { result ≡ length (config_in self.now).branches }
     {
@@ -121,7 +121,7 @@ impl<'a> Stepper<'a> {
     /// Executes the next instruction, or all those of starts that are passed over together. The stepper comes back where
     /// the run goes on.
     ///
-    /// A `RuntimeError` tells which limit the run passed, and `Memory` that a request for memory was refused. Either
+    /// A `RuntimeError` tells which limit the run exceeded, and `Memory` that an allocation failed. Either
     /// ends the stepper.
     pub fn step(self) -> Result<Progress<'a>, Error>
         ensures { StepsTo self.entry result }
