@@ -19,21 +19,24 @@ def driver(engine, peers=PEERS):
     return file
 
 
-def counted(command):
-    """What a command prints, and its instructions; None for them if valgrind did not count."""
+def counted(command, seconds=None):
+    """What a command prints, and its instructions; None for them if valgrind did not count, or not within `seconds`."""
     words = ["valgrind", "--tool=callgrind", "--callgrind-out-file=/dev/null", *map(str, command)]
-    ran = subprocess.run(words, capture_output=True, text=True)
+    try:
+        ran = subprocess.run(words, capture_output=True, text=True, timeout=seconds)
+    except subprocess.TimeoutExpired:
+        return "", None
     collected = re.search(r"Collected : (\d+)", ran.stderr)
     return ran.stdout, int(collected[1]) if collected else None
 
 
-def measured(program, folder, name, pattern, text, mode="all"):
+def measured(program, folder, name, pattern, text, mode="all", seconds=None):
     """What a driver answers, and its instructions in one pass: a run with three passes less a run with one, halved."""
     (folder / name).write_text(pattern)
     (folder / "text").write_text(text)
     counts, answer = [], None
     for passes in (1, 3):
-        said, count = counted([program, mode, folder / name, folder / "text", 0, passes])
+        said, count = counted([program, mode, folder / name, folder / "text", 0, passes], seconds)
         words = said.split()
         if count is None or len(words) < 6 or words[0].startswith("error"):
             return " ".join(words[:1]) or "no answer", None
