@@ -67,8 +67,11 @@ def messages(language):
     """The longer translated messages of the machine's programs."""
     found = []
     for file in sorted(Path("/usr/share/locale", language, "LC_MESSAGES").glob("*.mo")):
-        with open(file, "rb") as stream:
-            catalog = gettext.GNUTranslations(stream)._catalog
+        try:
+            with open(file, "rb") as stream:
+                catalog = gettext.GNUTranslations(stream)._catalog
+        except (OSError, ValueError, LookupError):  # a file whose header is wrong
+            continue
         found += [it for it in catalog.values() if isinstance(it, str) and len(it) > 40]
     return found
 

@@ -8,7 +8,7 @@ PEERS = Path(os.environ.get("PEERS_BUILD") or Path(__file__).resolve().parent.pa
 
 
 class Missing(Exception):
-    """A driver that was not built."""
+    """A driver that was not built, or a package that could not be downloaded."""
 
 
 def driver(engine, peers=PEERS):

@@ -9,13 +9,11 @@ import subprocess
 import sys
 from pathlib import Path
 
+from .instructions import Missing
+
 PYTHON = "usr/lib/python3/dist-packages"
 SHORTEST, LONGEST = 4, 3000
 MODULES = 24  # of pygments, whose 240 take more than a minute to import
-
-
-class Missing(Exception):
-    """A package that could not be had."""
 
 
 def unpacked(name, folder):
