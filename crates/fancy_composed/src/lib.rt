@@ -10,7 +10,7 @@ pub fn composed_theorem()
     ensures { ComposedTheorem }
 {}
 
-/// Each run of the undelegated program of an accepted tree passes a limit, or gives the answer of the plain meaning.
+/// Each run of the undelegated program of an accepted tree exceeds a limit, or gives the answer of the plain meaning.
 pub fn undelegated_headline()
     ensures { UndelegatedHeadline }
 {}

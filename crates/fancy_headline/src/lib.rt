@@ -11,12 +11,12 @@ pub fn delegation_is_harmless()
     ensures { DelegationIsHarmless }
 {}
 
-/// Each run of the program of an accepted tree passes a limit, or gives the answer of the plain meaning.
+/// Each run of the program of an accepted tree exceeds a limit, or gives the answer of the plain meaning.
 pub fn headline()
     ensures { Headline }
 {}
 
-/// Each run of the program of an accepted tree ends: from some number of instructions on, no step limit is passed.
+/// Each run of the program of an accepted tree ends: from some number of instructions on, no step limit is exceeded.
 pub fn runs_end()
     ensures { RunsEnd }
 {}

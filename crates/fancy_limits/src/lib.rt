@@ -15,7 +15,7 @@ pub fn backtrack_limit_is_monotone()
     ensures { BacktrackLimitIsMonotone }
 {}
 
-/// A run that passes no limit has the same outcome under all higher limits.
+/// A run that exceeds no limit has the same outcome under all higher limits.
 pub fn limits_are_monotone()
     ensures { LimitsAreMonotone }
 {}
