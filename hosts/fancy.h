@@ -10,7 +10,7 @@
  *         outcome = fancy_find(&program, text, strlen(text), &options, spans, 2);
  *     fancy_free(&program);
  *
- * Lengths and places are in bytes. Patterns, trees, texts and names are UTF-8, and end where their length says:
+ * Lengths and positions are in bytes. Patterns, trees, texts and names are UTF-8, and end where their length says:
  * a zero in them is a character like any other.
  *
  * Texts that are written for the host end with a zero, as those of snprintf do: of `room` bytes at most room - 1 are
@@ -25,7 +25,7 @@
  * calls, by a lock or by a thread's start or join. Threads that search for one pattern at the same time have a program each,
  * by fancy_clone; threads that scan at the same time have a scanner each, to which the patterns are added.
  *
- * The library is crates/fancy_host/out/libfancy_host.a (`rt lib` in crates/fancy_host). It calls malloc, realloc and
+ * The library is libfancy.so or libfancy.a, as scripts/install builds it. It calls malloc, realloc and
  * free, by c/liblibc_c.a of the kit, and nothing else.
  */
 #ifndef FANCY_H

@@ -1,6 +1,6 @@
 #!/usr/bin/env python3
 """Runs every job of jobs.json on every peer, one process at a time, and prints ns per search and ns per
-compile. The README of crates/fancy_bench has the protocol of a driver; `build` builds those of the peers.
+compile. The README of fancy_bench beside it has the protocol of a driver; `build` builds those of the peers.
 
     bench.py                       all jobs, all peers -> $PEERS_BUILD/results/bench.json and a table
     bench.py --jobs lit-all,email --peers pcre2,onig

@@ -30,16 +30,16 @@ def counted(command, seconds=None):
     return ran.stdout, int(collected[1]) if collected else None
 
 
-def measured(program, folder, name, pattern, text, mode="all", seconds=None):
-    """What a driver answers, and its instructions in one pass: a run with three passes less a run with one, halved."""
+def measured(program, folder, name, pattern, text, mode="all", seconds=None, passes=(1, 3)):
+    """What a driver answers, and its instructions in one pass: those that a run with more passes takes beyond one with fewer."""
     (folder / name).write_text(pattern)
     (folder / "text").write_text(text)
     counts, answer = [], None
-    for passes in (1, 3):
-        said, count = counted([program, mode, folder / name, folder / "text", 0, passes], seconds)
+    for count_of in passes:
+        said, count = counted([program, mode, folder / name, folder / "text", 0, count_of], seconds)
         words = said.split()
         if count is None or len(words) < 6 or words[0].startswith("error"):
             return " ".join(words[:1]) or "no answer", None
         counts.append(count)
         answer = answer or tuple(words[:5])
-    return answer, max(1, (counts[1] - counts[0]) // 2)
+    return answer, max(1, (counts[1] - counts[0]) // (passes[1] - passes[0]))

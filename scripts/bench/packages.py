@@ -104,7 +104,7 @@ def filters(package, source):
 
 
 def probes(package, source):
-    """The patterns for answers of services, by nmap. A text has an answer on each line, so ^ and $ are those of lines."""
+    """The patterns for replies of services, by nmap. A text has an answer on each line, so ^ and $ are those of lines."""
     file = package / "usr/share/nmap/nmap-service-probes"
     for line in file.read_text(encoding="latin-1").splitlines():
         found = re.match(r"(?:soft)?match \S+ m(.)(.*?)\1([is]*)(?: |$)", line)

@@ -2,7 +2,7 @@
 from pathlib import Path
 
 from .crates import below, listed
-from .kit import ROOT, kit_folder
+from .kit import ROOT, Failure, kit_folder
 
 
 def begun(root, crate):
@@ -14,6 +14,10 @@ def over_libraries(crate, libraries, root=ROOT):
     """Over the libraries that `rt ci` left in another checkout."""
     kit, names = kit_folder(), listed(root)
     place = lambda it: Path(libraries) / f"crates/{it}/out/rlib"
+    missing = [it for it in below(crate, names) if not (place(it) / f"{it}.rlib").exists()]
+    if missing:
+        others = f" and of {len(missing) - 1} more" if missing[1:] else ""
+        raise Failure(f"{libraries} has no proved library of {missing[0]}{others}: run `rt ci` there")
     yield from (kit / "bin/rattle", *begun(root, crate))
     for name in ("std", *names[crate]):
         yield from ("--extern", f"{name}={(place(name) if name in names else kit / 'rlibs') / name}.rlib")

@@ -7,22 +7,33 @@ import hashlib
 import shutil
 import tempfile
 from concurrent.futures import ThreadPoolExecutor
-from contextlib import contextmanager
+from contextlib import ExitStack, contextmanager
 from pathlib import Path
 
+from .copies import take
 from .crates import below, is_library_for_c, listed
 from .kit import ROOT, Failure, kit_folder, kit_name
 from .library import write_archive, write_library_module
 from .module import How, compile_module, link_program, write_module
+from .together import build_together, can_go_together
 
 KEPT = ROOT / "out/quick"
+# a program that the gate does not prove: its sources end in .rattle, and `uses` is its line of crates.txt
+BENCH = ROOT / "scripts/bench/fancy_bench"
 # the files of this folder that decide how a module is compiled
-HOW = [Path(__file__).with_name(it) for it in ("hints.py", "library.py", "module.py")]
+HOW = [Path(__file__).with_name(it) for it in ("hints.py", "library.py", "module.py", "reached.py", "together.py")]
+
+
+def known():
+    """What each crate that can be built names: those of crates.txt, and fancy_bench."""
+    return {**listed(), BENCH.name: (BENCH / "uses").read_text().partition(":")[2].split()}
 
 
 def sources(crate):
     """The files that a build of a crate reads, but for those of the kit."""
-    names = listed()
+    names = known()
+    if crate == BENCH.name:
+        yield from sorted(BENCH.glob("*.rattle"))
     for name in (*below(crate, names), crate):
         for part in ("src/**/*.rt", "specs/**/*.antt"):
             yield from sorted((ROOT / "crates" / name).glob(part))
@@ -30,7 +41,7 @@ def sources(crate):
 
 def sum_of_sources(crate, how=How()):
     """A sum over all that a build of a crate depends on."""
-    names = listed()
+    names = known()
     text = hashlib.sha256(repr((kit_name(), tuple(how), [(it, names[it]) for it in (*below(crate, names), crate)])).encode())
     for file in (*sources(crate), *HOW):
         text.update(f"{file.relative_to(ROOT)}\n".encode())
@@ -39,7 +50,20 @@ def sum_of_sources(crate, how=How()):
 
 
 def is_program(crate):
-    return (ROOT / "crates" / crate / "src/main.rt").is_file()
+    return crate == BENCH.name or (ROOT / "crates" / crate / "src/main.rt").is_file()
+
+
+def copy_with_bench(folder):
+    """Copies the crates below fancy_bench, with it among them. Returns its folder."""
+    for crate in known()[BENCH.name]:
+        take(crate, folder, ("src", "specs"))
+    made = folder / "crates" / BENCH.name
+    (made / "src").mkdir(parents=True)
+    for file in BENCH.glob("*.rattle"):
+        shutil.copy(file, (made / "src" / file.name).with_suffix(".rt"))
+    with (folder / "crates.txt").open("a") as lines:
+        lines.write((BENCH / "uses").read_text())
+    return made
 
 
 def build(crate, out, how, kept_module=None):
@@ -48,7 +72,8 @@ def build(crate, out, how, kept_module=None):
     with tempfile.TemporaryDirectory(prefix="quick-build-") as name:
         folder = Path(name)
         if is_program(crate):
-            module, words = write_module(kit, ROOT / "crates" / crate, folder, how)
+            own = copy_with_bench(folder / "copy") if crate == BENCH.name else ROOT / "crates" / crate
+            module, words = write_module(kit, own, folder, how)
         else:
             module, words = write_library_module(kit, folder, how)
         if kept_module:
@@ -96,14 +121,41 @@ def build_kept(crate):
         return file, True
 
 
+def build_stale(crates, jobs, say):
+    """Builds together those of several crates whose sources changed, if they are more than one. `say` gets each."""
+    with ExitStack() as locks:
+        for it in sorted(crates):
+            locks.enter_context(alone(it))
+        sums = {it: sum_of_sources(it) for it in crates if not is_kept(it)}
+        if len(sums) < 2:
+            return
+
+        def note(crate):
+            if sum_of_sources(crate) == sums[crate]:
+                kept(crate)[1].write_text(sums[crate])
+            say(crate)
+
+        for it in sums:
+            kept(it)[1].unlink(missing_ok=True)
+        with tempfile.TemporaryDirectory(prefix="quick-build-") as folder:
+            build_together(kit_folder(), {it: kept(it)[0] for it in sums}, Path(folder), How(), jobs, note)
+
+
 def build_all(crates, jobs, say):
     """Builds several crates side by side. Returns the file of each; `say` gets a line for each that is done."""
+    built = set()
+
+    def tell(crate, is_new):
+        say(f"{crate}: {'built' if is_new else 'as it was built before'}, NOT PROVED")
+        built.add(crate)
 
     def work(crate):
         file, is_new = build_kept(crate)
-        say(f"{crate}: {'built' if is_new else 'as it was built before'}, NOT PROVED")
+        if crate not in built:
+            tell(crate, is_new)
         return file
 
+    build_stale([it for it in crates if can_go_together(it)], jobs, lambda it: tell(it, True))
     with ThreadPoolExecutor(jobs) as workers:
         return dict(zip(crates, workers.map(work, crates)))
 

@@ -1,7 +1,7 @@
 """The library for C as one module, and as an archive.
 
 `rt try` compiles programs alone, and of them what `main` reaches. So a copy of the crate is made a program that calls
-each function that the library exports; in its module these functions are then called by their names, and `main` is not.
+each function that the library exports; in its module these functions are then called by their names, and `main` is left out.
 """
 import re
 import shutil
@@ -9,6 +9,7 @@ import shutil
 from .copies import take
 from .kit import ROOT, Failure, done
 from .module import compile_module, write_module
+from .reached import Module
 
 CRATE = "fancy_host"
 # What a call of the library is handed, by the type of its parameter: the calls are made to be compiled, not to be run.
@@ -31,9 +32,8 @@ GIVEN = {
     "bool": "false",
     "u32": "1",
 }
-MAIN = """
-fn main(rt: HostRuntime) {
-    let alloc = rt.alloc();
+CALL_ALL = """
+pub fn call_all(alloc: Global) {
     let options = fancy_default_options();
     let mut program = FancyProgram::empty(alloc);
     let mut copy = FancyProgram::empty(alloc);
@@ -49,6 +49,11 @@ CALLS
     fancy_free(alloc, &mut program);
     fancy_free(alloc, &mut copy);
     fancy_scanner_free(alloc, &mut scanner);
+}
+"""
+MAIN = """
+fn main(rt: HostRuntime) {
+    call_all(rt.alloc());
 }
 """
 
@@ -71,6 +76,15 @@ def calls(source):
         yield f"        let _ = {name}({', '.join(given)});"
 
 
+def names_in(source):
+    return {name for name, _ in exported_calls(source)}
+
+
+def with_calls(source):
+    """The library with a function that calls all that it exports."""
+    return source + CALL_ALL.replace("CALLS", "\n".join(calls(source)))
+
+
 def copy_as_program(folder):
     """Copies the library and what is below it, as a program. Returns its folder and the names that it exports."""
     copy = folder / "repository"
@@ -80,19 +94,19 @@ def copy_as_program(folder):
     library = copy / "crates" / CRATE / "src/lib.rt"
     source = library.read_text()
     library.unlink()
-    (library.parent / "main.rt").write_text(source + MAIN.replace("CALLS", "\n".join(calls(source))))
-    return library.parent.parent, {name for name, _ in exported_calls(source)}
+    (library.parent / "main.rt").write_text(with_calls(source) + MAIN)
+    return library.parent.parent, names_in(source)
 
 
 def exported(lines, names):
-    """The lines of a module, in which a program in C can call the functions by their names, and `main` is not called."""
+    """The lines of a module, in which a program in C can call the functions by their names."""
     named = re.compile(rf'@"{CRATE}::({"|".join(sorted(names))})"')
     for line in lines:
         if f'@"{CRATE}::' in line:
             line = named.sub(r"@\1", line)
             if re.match(r"define internal [^@]*@fancy_\w+\(", line):
                 line = line.replace("define internal ", "define ", 1)
-        yield line.replace("define i32 @main()", "define internal i32 @unused_main()")
+        yield line
 
 
 def write_library_module(kit, folder, how):
@@ -100,8 +114,8 @@ def write_library_module(kit, folder, how):
     crate, names = copy_as_program(folder)
     module, words = write_module(kit, crate, folder, how)
     shutil.rmtree(folder / "repository")
-    with open(module, encoding="utf-8") as lines, open(folder / "library.ll", "w", encoding="utf-8") as made:
-        made.writelines(exported(lines, names))
+    with open(module, encoding="utf-8") as lines:
+        Module(exported(lines, names)).write(folder / "library.ll", names, {})
     return folder / "library.ll", words
 
 

@@ -4,7 +4,7 @@ use Rattle.std.proofs.lemmas.Grind.{flat_map-append}
 use Rattle.std.proofs.lemmas.List.Elements.{Contains-append_left, Contains-append_right}
 use Rattle.std.proofs.lemmas.Option.{none-some}
 use Rattle.std.proofs.lemmas.List.{length-set, reverse-append, take_min}
-use Rattle.fancy_backtrack.specs.BacktrackStack.{bytes_before, choices_in, one_before, run_choices}
+use Rattle.fancy_backtrack.specs.BacktrackStack.{choices_in, one_before, run_choices}
 use Rattle.fancy_backtrack.specs.declared.backtrack_stack.StackFrame.{StackFrame}
 use Rattle.fancy_backtrack.specs.declared.backtrack_stack.Run.{Run}
 
@@ -63,51 +63,3 @@ pub run_taken : (runs : List Run) (len n : ℕ) (r : Run) → min len (length ru
     one_by_one (take len runs) ≡ r.choice ∷ one_by_one (take n runs)
 run_taken runs len n r long at none =
     up_to_last runs len n r long at ∙ ap (λ k. run_choices k r.choice ++ one_by_one (take n runs)) none
-
--- ---- one of the choices
-
-itself : (c : StackFrame) → c ≡ bytes_before 0 c
-itself c =
-    let same : c.config.place ≡ c.config.place - 0 = omega arith in
-    ap (λ p. record c { config = record (c.config) { place = p } }) same
-
-first_of : (x : StackFrame) (xs : List StackFrame) → Contains (x ∷ xs) x
-first_of x xs = (0, omega arith, refl)
-
--- each choice of a run
-pub run_has : (before back : ℕ) (c : StackFrame) → back ≤ before → Contains (run_choices before c) (bytes_before back c)
-run_has zero zero c le = subst (Contains (c ∷ [])) (itself c) (first_of c [])
-run_has zero (suc back) c le = absurd (omega (arith, le))
-run_has (suc n) zero c le = subst (Contains (run_choices (suc n) c)) (itself c) (first_of c (run_choices n (one_before c)))
-run_has (suc n) (suc back) c le =
-    let more = run_has n back (one_before c) (omega (arith, le)) in
-    let same : c.config.place - 1 - back ≡ c.config.place - suc back = omega arith in
-    further c (run_choices n (one_before c)) (bytes_before (suc back) c)
-    (subst (λ p. Contains (run_choices n (one_before c)) (record c { config = record (c.config) { place = p } })) same more)
-  where
-    further : (x : StackFrame) (xs : List StackFrame) (y : StackFrame) → Contains xs y → Contains (x ∷ xs) y
-    further x xs y (k, lt, e) = (suc k, omega (arith, lt), e)
-
-one_by_one-first : (r : Run) (runs : List Run) → one_by_one (r ∷ runs) ≡ one_by_one runs ++ choices_in r
-one_by_one-first r runs =
-    ap (flat_map choices_in) (reverse-append (r ∷ []) runs)
-    ∙ flat_map-append choices_in (reverse runs) (r ∷ [])
-    ∙ ap (λ l. one_by_one runs ++ l) (append-nil (choices_in r))
-
--- each choice of one of the runs
-runs_have : (runs : List Run) (len i : ℕ) (r : Run) (c : StackFrame) → i < len → slice_get runs i ≡ Some r → Contains (choices_in r) c →
-    Contains (one_by_one (take len runs)) c
-runs_have [] len i r c lt at h = absurd (none-some r at)
-runs_have (x ∷ xs) zero i r c lt at h = absurd (omega (arith, lt))
-runs_have (x ∷ xs) (suc len) zero r c lt at h =
-    let same : r ≡ x = cc in
-    subst (λ l. Contains l c) (sym (one_by_one-first x (take len xs)))
-    (Contains-append_right (one_by_one (take len xs)) (choices_in x) c (subst (λ y. Contains (choices_in y) c) same h))
-runs_have (x ∷ xs) (suc len) (suc i) r c lt at h =
-    subst (λ l. Contains l c) (sym (one_by_one-first x (take len xs)))
-    (Contains-append_left (one_by_one (take len xs)) (choices_in x) c (runs_have xs len i r c (omega (arith, lt)) at h))
-
-pub runs_have_it : (runs : List Run) (len i : ℕ) (r : Run) (o : Option StackFrame) → i < len → slice_get runs i ≡ Some r →
-    IfSome o (Contains (choices_in r)) → IfSome o (Contains (one_by_one (take len runs)))
-runs_have_it runs len i r None lt at h = tt
-runs_have_it runs len i r (Some c) lt at h = runs_have runs len i r c lt at h

@@ -4,12 +4,9 @@ use Rattle.fancy_backtrack.specs.declared.backtrack_stack.StackFrame.{StackFrame
 use Rattle.fancy_backtrack.specs.declared.backtrack_stack.BacktrackStack.{BacktrackStack}
 use Rattle.fancy_backtrack.specs.declared.backtrack_stack.Run.{Run}
 
--- this choice so many bytes before
-abbrev pub bytes_before : ℕ → StackFrame → StackFrame
-bytes_before n c = record c { config = record (c.config) { place = c.config.place - n } }
-
+-- this choice one byte before
 abbrev pub one_before : StackFrame → StackFrame
-one_before = bytes_before 1
+one_before c = record c { config = record (c.config) { place = c.config.place - 1 } }
 
 -- a choice, and such a one at each of so many bytes before
 abbrev pub run_choices : (before : ℕ) → StackFrame → List StackFrame

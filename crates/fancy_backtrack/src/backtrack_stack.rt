@@ -30,20 +30,7 @@ pub(crate) struct BacktrackStack {
 
 impl StackFrame {
     ghost use Rattle.std.specs.Prelude.{◌≡◌};
-    ghost use Rattle.fancy_backtrack.specs.BacktrackStack.{bytes_before, one_before};
-
-    /// This choice so many bytes before.
-    fn before(self, bytes: usize) -> StackFrame
-        ensures { result ≡ bytes_before bytes self }
-    {
-        StackFrame {
-            config: NfaConfig {
-                place: self.config.place.saturating_sub(bytes),
-                ..self.config
-            },
-            ..self
-        }
-    }
+    ghost use Rattle.fancy_backtrack.specs.BacktrackStack.{one_before};
 
     /// This choice one byte before.
     fn one_before(self) -> StackFrame
@@ -59,24 +46,8 @@ impl StackFrame {
     }
 }
 
-impl Run {
-    ghost use Rattle.std.specs.Prelude.{Contains, IfSome};
-    ghost use Rattle.fancy_backtrack.specs.BacktrackStack.{choices_in};
-
-    /// Its choice at this place.
-    fn choice_at(self, place: usize) -> Option<StackFrame>
-        ensures { IfSome result (Contains (choices_in self)) }
-    {
-        let back = self.choice.config.place.checked_sub(place)?;
-        if back > self.before {
-            return None;
-        }
-        Some(self.choice.before(back))
-    }
-}
-
 impl BacktrackStack {
-    ghost use Rattle.std.specs.Prelude.{◌≡◌, ◌≤◌, ◌++◌, [], length, Contains, IfSome, OnOk};
+    ghost use Rattle.std.specs.Prelude.{◌≡◌, ◌≤◌, ◌++◌, [], length, OnOk};
     ghost use Rattle.std.specs.Prelude.{◌*◌, min};
     ghost use Rattle.fancy_backtrack.specs.BacktrackStack.{Pops, choices_in, choices_of, run_choices};
     ghost use Rattle.fancy_backtrack.specs.Bytes.{stack_bytes, saturated};
@@ -141,25 +112,6 @@ impl BacktrackStack {
         self.runs.push(run)?;
         self.len = self.runs.len();
         Ok(())
-    }
-
-    /// The choice at this place of the run with this index, counted from the first one.
-    pub(crate) fn choice_at(&self, index: usize, place: usize) -> Option<StackFrame>
-        ensures { IfSome result (Contains (choices_of self.now)) }
-    {
-        if index >= self.len {
-            return None;
-        }
-        let run = self.runs.get(index)?;
-        run.choice_at(place)
-    }
-
-    /// There is a run with this index, and it ends before this place.
-    pub(crate) fn is_before(&self, index: usize, place: usize) -> bool {
-        match self.runs.get(index) {
-            Some(run) => index < self.len && run.choice.config.place < place,
-            None => false,
-        }
     }
 
     /// Takes the last one back.

@@ -1,6 +1,6 @@
 //! What a search keeps: where it stands on its path, what it tries later, and the pairs that have no way.
 
-ghost use Rattle.std.specs.Prelude.{nat_lt, ◌≡◌, ◌≤◌, ◌<◌, ◌+◌, ◌∷◌, ◌++◌, [], ℕ, List, Bool, min, true, false, length, map, take, Contains, IfOk, IfErr, IfSome, IsTrue};
+ghost use Rattle.std.specs.Prelude.{nat_lt, ◌≡◌, ◌≤◌, ◌<◌, ◌+◌, ◌∷◌, ◌++◌, [], ℕ, List, Bool, min, true, false, length, map, take, IfOk, IfErr, IfSome, IsTrue};
 ghost use Rattle.fancy_nfa.specs.NfaSearch as plain;
 ghost use Rattle.fancy_nfa.specs.NfaSearch.{Search, TakesUp, pair_of};
 ghost use Rattle.fancy_nfa.specs.NfaStates as states;
@@ -209,18 +209,6 @@ impl Memo {
         ensures { result.now ≡ self.now.trail.entries.items }
     {
         self.trail.entries()
-    }
-
-    /// The choice that the search keeps for this place among those that it kept at once, the first ones at index 0.
-    pub fn choice_at(&self, index: usize, place: usize) -> Option<StackFrame>
-        ensures { IfSome result (Contains (choices_of self.now.frames)) }
-    {
-        self.frames.choice_at(index, place)
-    }
-
-    /// The search keeps choices with this index, all for places before this one.
-    pub fn keeps_before(&self, index: usize, place: usize) -> bool {
-        self.frames.is_before(index, place)
     }
 
     /// One more state is taken up.

@@ -10,8 +10,9 @@ use crate::printing::{answer_line, depth_line, error_line, memory_line, usage_li
 use fancy_expr::error::Error;
 use fancy_notation::depth::depth;
 use fancy_notation::notation::read_tree;
+use fancy_search::scratch::Scratch;
 use fancy_search::search::search;
-use fancy_vm::vm::{Scratch, SearchLimits};
+use fancy_vm::vm::SearchLimits;
 use std::alloc::Global;
 use std::io::Write;
 

@@ -144,34 +144,6 @@ pub found_joined : (text : List ℕ) (f : Fragment) (place : ℕ) (result : Resu
 found_joined text f place (Ok answer) h = by_either f f.of_joined f.joined_laid_out text place answer h
 found_joined text f place (Err e) h = h
 
-module _ (text : List ℕ) (f : Fragment) (place : ℕ) where
-  -- of nodes with their loops joined
-  seen_of_joined : (n : Nfa) → IsJoinedOut f n → (o : Option Seen) → ((a : Analysis) (es : List Tree) → IsNfaOf a es n.unicode n →
-      (pos : ℕ) (continued : Bool) →
-      first_seen (record { text = text; pos = pos; continued = continued; unicode = n.unicode }) es place ≡ o) →
-      (pos : ℕ) (continued : Bool) →
-      first_seen (record { text = text; pos = pos; continued = continued; unicode = f.unicode }) (nodes_of f) place ≡ o
-  seen_of_joined n out o h pos continued =
-      ∥∥₁_elim out (Prim.hlevel props) (λ laid.
-      let q : Bool → Setting = λ u. record { text = text; pos = pos; continued = continued; unicode = u } in
-      sym ((joining_keeps_nodes true (nodes_of f)).first (q f.unicode) place)
-      ∙ subst (λ u. first_seen (q u) (map (joined true) (nodes_of f)) place ≡ o) laid.1.unicode
-      (h laid.0 (map (joined true) (nodes_of f)) (by_its_option f n laid) pos continued))
-
-  one_pass_joined : (n : Nfa) → IsJoinedOut f n → (s : OnePass) → IsOnePass text n place s → IsOnePassOf text f place s
-  one_pass_joined n out (one_pass.Ends end) h = seen_of_joined n out (Some (end, λ g. None)) h
-  one_pass_joined n out one_pass.Fails h = λ pos continued. subst (IsSeenAs None) (sym (seen_of_joined n out None h pos continued)) tt
-  one_pass_joined n out one_pass.Unknown h = h
-
-  one_pass_either : (o : Option (Box Nfa Global)) → IfSome o (λ n. IsJoinedOut f n.value) → (s : OnePass) →
-      IsOnePass text (nfa_or f.nfa o) place s → IsOnePassOf text f place s
-  one_pass_either None out s h = one_pass_from f text place s h
-  one_pass_either (Some n) out s h = one_pass_joined n.value out s h
-
-  pub passed_joined : (r : Result OnePass AllocError) → IfOk r (IsOnePass text (joined_nfa f) place) → IfOk r (IsOnePassOf text f place)
-  passed_joined (Ok s) h = one_pass_either f.of_joined f.joined_laid_out s h
-  passed_joined (Err e) h = tt
-
 -- what is told of the one is told of the other, where they are one
 module _ (text : List ℕ) (m : Memo) (n k : Nfa) (same : n ≡ k) where
   pub memo_by : IsMemoOf text n m → IsMemoOf text k m

@@ -9,7 +9,7 @@ use std::alloc::{AllocError, Global};
 
 /// The node with all below it, once more.
 #[cycle(copying)]
-pub(crate) fn copy_of(alloc: Global, expr: &Expr) -> Result<Expr, AllocError>
+pub fn copy_of(alloc: Global, expr: &Expr) -> Result<Expr, AllocError>
     ensures { IfOk result (λ copy. tree_of copy ≡ tree_of expr.now) }
 {
     match expr {

@@ -1,22 +1,18 @@
 //! The first way of a fragment from a place.
 
-ghost use Rattle.std.specs.Prelude.{◌≡◌, ◌≤◌, ℕ, Bool, List, false, IfOk, IfErr, IsTrue};
+ghost use Rattle.std.specs.Prelude.{◌≡◌, ◌≤◌, Bool, false, IfOk, IfErr, IsTrue};
 ghost use Rattle.fancy_meaning.specs.Places.{is_place};
 ghost use Rattle.fancy_nfa.specs.NfaSearch.{Pair};
 ghost use Rattle.fancy_backtrack.specs.Memos.{HaveFailed};
-ghost use Rattle.fancy_plain.specs.FoundEnds.{ChoicesEndAt, ChoicesLead};
-ghost use Rattle.fancy_plain.specs.OnePassCaches.{IsCacheOf};
 ghost use Rattle.fancy_plain.specs.Searches.{IsMemory};
 ghost use Rattle.fancy_plain.specs.Ways.{CountsVisits, HasAscending};
-ghost use Rattle.fancy_fragments.specs.Fragments.{IsFirstWayOf, IsJoinedMemoFor, IsMemoFor, IsOnePassOf, joined_nfa};
+ghost use Rattle.fancy_fragments.specs.Fragments.{IsFirstWayOf, IsJoinedMemoFor, IsMemoFor, joined_nfa};
 
 use crate::fragment::Fragment;
 use fancy_backtrack::memo::Memo;
 use fancy_expr::error::Error;
 use fancy_plain::first_way::FirstWay;
-use fancy_plain::one_pass::OnePass;
-use fancy_plain::one_pass_cache::OnePassCache;
-use std::alloc::{AllocError, Global};
+use std::alloc::Global;
 
 /// The first way of the fragment from `ix`, a character boundary of the text. `Memory` where a request for memory was
 /// refused, and after 2^64 - 1 steps, more than any machine takes.
@@ -75,46 +71,9 @@ pub fn first_way_joined(
     ensures visits { IfOk result (λ answer. (failed : Pair → Bool) → HaveFailed memo.old failed
         → CountsVisits text.now (joined_nfa fragment.now) failed ix answer) }
     ensures memo { IsJoinedMemoFor text.now fragment.now memo.new }
-    ensures choices { IfOk result (ChoicesLead text.now (joined_nfa fragment.now) memo.new) }
     ensures within { IfOk result (λ answer. answer.visits ≤ memo.old.budget.visits) }
     ensures budget { memo.new.budget ≡ memo.old.budget }
     ensures refused { IfErr result IsMemory }
 {
     fancy_plain::first_way::first_way_with(alloc, fragment.joined_nfa(), text, ix, memo)
-}
-
-/// Keeps where the last search of this memo ended, which found a way from `ix` by `first_way_joined` that sets no group.
-pub fn keep_joined_ends(
-    alloc: Global,
-    fragment: &Fragment,
-    text: &str,
-    ix: usize,
-    end: usize,
-    memo: &Memo,
-    cache: &mut OnePassCache,
-) -> Result<(), AllocError>
-    requires place { IsTrue (is_place text.now ix) }
-    requires choices { ChoicesEndAt text.now (joined_nfa fragment.now) memo.now end }
-    requires cache { IsCacheOf text.now (joined_nfa fragment.now) cache.old }
-    ensures { IsCacheOf text.now (joined_nfa fragment.now) cache.new }
-{
-    fragment
-        .joined_nfa()
-        .keep_ends(alloc, text, ix, end, memo, cache)
-}
-
-/// The first way from `ix`, where one pass comes near behind that to a place for which `keep_joined_ends` kept an end.
-pub fn kept_joined_end(
-    alloc: Global,
-    fragment: &Fragment,
-    text: &str,
-    ix: usize,
-    cache: &mut OnePassCache,
-) -> Result<OnePass, AllocError>
-    requires place { IsTrue (is_place text.now ix) }
-    requires cache { IsCacheOf text.now (joined_nfa fragment.now) cache.old }
-    ensures way { IfOk result (IsOnePassOf text.now fragment.now ix) }
-    ensures cache { IsCacheOf text.now (joined_nfa fragment.now) cache.new }
-{
-    fragment.joined_nfa().near_end_kept(alloc, text, ix, cache)
 }

@@ -7,4 +7,5 @@ pub mod Occurrences
 pub mod Patterns
 pub mod Printing
 pub mod RegexOptions
+pub mod Reports
 pub mod Standing

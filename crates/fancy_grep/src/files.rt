@@ -11,7 +11,6 @@ use fancy_input::marks::TextReader;
 use fancy_input::pieces::{Piece, read_as, split_piece};
 use fancy_pattern::pattern::parse_tree;
 use fancy_regex::Error;
-use memchr::memchr;
 use std::alloc::AllocError;
 use std::fs::{DirEntry, File};
 use std::io::{ErrorKind, Read};
@@ -26,6 +25,8 @@ struct Run<'r> {
     rt: &'r HostRuntime,
     matcher: Matcher,
     out: Output,
+    report: Report,
+    is_silent: bool,
     /// A line was selected.
     is_selected: bool,
     /// Something could not be read, searched or written.
@@ -35,7 +36,9 @@ struct Run<'r> {
 impl<'r> Run<'r> {
     /// The status of the program, as of grep.
     fn status(&self) -> u8 {
-        if self.has_failed || self.out.error().is_some() {
+        if self.is_found() {
+            0
+        } else if self.has_failed || self.out.error().is_some() {
             2
         } else if self.is_selected {
             0
@@ -44,9 +47,14 @@ impl<'r> Run<'r> {
         }
     }
 
+    /// Whether a line was selected, and that is all that is asked.
+    fn is_found(&self) -> bool {
+        self.is_selected && matches!(self.report, Report::Nothing)
+    }
+
     /// Whether nothing more can be written.
     fn is_closed(&self) -> bool {
-        self.out.error().is_some()
+        self.is_found() || self.out.error().is_some()
     }
 
     /// Writes what is kept, and returns the status. A closed pipe is not reported.
@@ -60,9 +68,12 @@ impl<'r> Run<'r> {
         self.status()
     }
 
-    /// Reports on standard error that something failed.
+    /// Reports on standard error that something could not be read, unless that is not asked for.
     fn fail(&mut self, what: &str, error: &io::Error) {
         self.has_failed = true;
+        if self.is_silent {
+            return;
+        }
         self.out.flush();
         let _unwritten = eprintln!(self.rt; "fancygrep: {what}: {error}");
     }
@@ -129,7 +140,7 @@ impl<'r> Run<'r> {
 
     /// Searches a block of a file, and returns whether the search goes on.
     fn search_block(&mut self, search: &mut Search<'_>, name: &str, block: &[u8]) -> bool {
-        search.is_binary = search.is_binary || memchr(0, block).is_some();
+        search.pass_zeros(block);
         let mut left = block;
         for _ in 0..block.len() {
             if left.is_empty() {
@@ -191,7 +202,7 @@ impl<'r> Run<'r> {
         self.search_blocks(&mut search, name, &mut blocks);
         self.is_selected = self.is_selected || search.is_selected();
         search.finish(&mut self.out)?;
-        if search.is_untold && matches!(settings.report, Report::Lines | Report::Matches) {
+        if search.is_untold && settings.report.has_lines() {
             self.out.flush();
             let _unwritten = eprintln!(self.rt; "fancygrep: {name}: binary file matches");
         }
@@ -376,6 +387,8 @@ fn search_all(
         rt,
         matcher,
         out: Output::new(rt.alloc(), rt.stdout()),
+        report: settings.report,
+        is_silent: settings.is_silent,
         is_selected: false,
         has_failed: false,
     };

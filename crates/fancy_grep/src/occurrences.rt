@@ -62,11 +62,13 @@ impl<'t, 'n> Occurrences<'t, 'n> {
     pub fn new(required: &'n Required, text: &'t str) -> Occurrences<'t, 'n>
         ensures { sought result ≡ (required_of required.entry.now, text.entry.now) }
     {
+        let needle = Needle::new(required);
+        let next = needle.next_from(text, 0);
         Occurrences {
-            needle: Needle::new(required),
+            needle,
             text,
             from: 0,
-            next: 0,
+            next,
         }
     }
 

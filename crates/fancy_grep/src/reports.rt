@@ -153,11 +153,14 @@ impl<'s> Search<'s> {
 
     /// Whether nothing that follows can change what is written.
     pub fn is_done(&self) -> bool {
-        match self.settings.report {
-            Report::Count => false,
-            Report::Name => self.is_selected(),
-            Report::Lines | Report::Matches => self.is_untold,
-        }
+        let report = self.settings.report;
+        (report.is_decided_by_line() && self.is_selected())
+            || (report.has_lines() && self.is_untold)
+    }
+
+    /// Notes whether these bytes of the file have a zero, which makes it a binary file, unless it is searched as a text.
+    pub fn pass_zeros(&mut self, bytes: &[u8]) {
+        self.is_binary = self.is_binary || (!self.settings.is_text && memchr(0, bytes).is_some());
     }
 
     /// The number of the next line.
@@ -251,7 +254,7 @@ impl<'s> Search<'s> {
     ) -> Result<(), Failure>
         requires { AreRising 1 (numbers_of lines.now) }
     {
-        if self.is_binary || matches!(self.settings.report, Report::Count | Report::Name) {
+        if self.is_binary || !self.settings.report.has_lines() {
             return Ok(());
         }
         let page = Page {
@@ -292,7 +295,7 @@ impl<'s> Search<'s> {
                 out.kept.extend_from_slice(count.as_bytes())?;
                 out.end_line()
             }
-            Report::Name if self.is_selected() => {
+            report if report.has_name(self.is_selected()) => {
                 push_painted(&mut out.kept, style.has_colours, NAME, self.name.as_bytes())?;
                 out.end_line()
             }

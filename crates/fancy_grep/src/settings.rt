@@ -1,5 +1,8 @@
 //! What is asked of a search of texts.
 
+ghost use Rattle.std.specs.Prelude.{◌≡◌};
+ghost use Rattle.fancy_grep.specs.Reports.{has_lines, has_name, is_decided_by_line};
+
 use crate::context::Context;
 use crate::patterns::PatternOptions;
 
@@ -14,6 +17,37 @@ pub enum Report {
     Count,
     /// Its name, where a line is selected.
     Name,
+    /// Its name, where no line is selected.
+    NameWithout,
+    /// Nothing. The first selected line ends the search of all texts.
+    Nothing,
+}
+
+impl Report {
+    /// Lines are written, or parts of them.
+    pub(crate) fn has_lines(self) -> bool
+        ensures { result ≡ has_lines self }
+    {
+        matches!(self, Report::Lines | Report::Matches)
+    }
+
+    /// The name of a text is written, by whether a line of it is selected.
+    pub(crate) fn has_name(self, is_selected: bool) -> bool
+        ensures { result ≡ has_name self is_selected }
+    {
+        match self {
+            Report::Name => is_selected,
+            Report::NameWithout => !is_selected,
+            _ => false,
+        }
+    }
+
+    /// A selected line decides all that is written of its text.
+    pub(crate) fn is_decided_by_line(self) -> bool
+        ensures { result ≡ is_decided_by_line self }
+    {
+        matches!(self, Report::Name | Report::NameWithout | Report::Nothing)
+    }
 }
 
 /// What is asked of a search of texts.
@@ -30,6 +64,10 @@ pub struct Settings<'a> {
     /// Each line begins with the name of its text.
     pub has_names: bool,
     pub has_colours: bool,
+    /// A text with a zero byte is written as any other.
+    pub is_text: bool,
+    /// What cannot be read is not reported.
+    pub is_silent: bool,
     /// How many lines around the selected ones are written too.
     pub context: Option<Context>,
     /// What is written for each match, with references to groups.

@@ -15,7 +15,7 @@ use crate::references::Took;
 use crate::tokens::Highlights;
 use crate::writer::Writer;
 use fancy_matches::found::Match;
-use fancy_scanner::scan_text::{ScanText, TreeMatch};
+use fancy_scanner::scan_text::{ScanStep, ScanText, TreeMatch};
 use std::alloc::{AllocError, Global};
 use std::collections::BTreeMap;
 use std::mem;
@@ -116,27 +116,23 @@ impl<'g, 'r, 't> Run<'g, 'r, 't> {
         self.top.is_entered_at(at)
     }
 
-    /// Leaves out each rule whose search exceeds a limit here. Another search for the others costs nothing: what was found
-    /// of them holds.
-    fn leave_out_stopped(&mut self, order: &[usize]) -> Result<(), AllocError>
+    /// Searches from here on for the tree at this place of the order. If that exceeds a limit, the rule is left out.
+    fn look(&mut self, index: usize, tree: usize) -> Result<ScanStep<'t>, AllocError>
         ensures { IsSame self.old self.new }
     {
-        let at = self.writer.at();
-        for (index, tree) in order.iter().enumerate() {
-            let Ok(step) = self.scan.find_among(&[*tree], at) else {
-                return Err(AllocError);
-            };
-            match (step.stopped, self.role(index)) {
-                (Some(stopped), Some(Role::End)) => {
-                    self.leave_out(self.top.rule, true, error_of(stopped.limit))?;
-                }
-                (Some(stopped), Some(Role::Rule(rule))) => {
-                    self.leave_out(rule, false, error_of(stopped.limit))?;
-                }
-                _ => {}
+        let Ok(step) = self.scan.find_among(&[tree], self.writer.at()) else {
+            return Err(AllocError);
+        };
+        match (step.stopped, self.role(index)) {
+            (Some(stopped), Some(Role::End)) => {
+                self.leave_out(self.top.rule, true, error_of(stopped.limit))?;
             }
+            (Some(stopped), Some(Role::Rule(rule))) => {
+                self.leave_out(rule, false, error_of(stopped.limit))?;
+            }
+            _ => {}
         }
-        Ok(())
+        Ok(step)
     }
 
     /// Closes the innermost regions whose rules are left out.
@@ -183,20 +179,27 @@ impl<'g, 'r, 't> Run<'g, 'r, 't> {
         }))
     }
 
-    /// The next match of the end and the rules that are in force, or else the rules that are left out there.
+    /// The next match of the end and the rules that are in force, or else the rules that are left out there. No tree is
+    /// searched for twice.
     fn find_next(&mut self) -> Result<Next<'t>, AllocError>
         ensures { IsSame self.old self.new }
     {
-        let at = self.writer.at();
         let order = self.top.order(self.alloc, &self.omitted)?;
-        let Ok(step) = self.scan.find_among(&order, at) else {
-            return Err(AllocError);
-        };
-        if step.stopped.is_some() {
-            self.leave_out_stopped(&order)?;
+        let mut first: Option<TreeMatch<'t>> = None;
+        let mut is_left_out = false;
+        for (index, tree) in order.iter().enumerate() {
+            let step = self.look(index, *tree)?;
+            is_left_out = is_left_out || step.stopped.is_some();
+            first = match (step.found, first) {
+                (Some(found), Some(one)) if one.whole.start() <= found.whole.start() => Some(one),
+                (Some(found), _) => Some(TreeMatch { index, ..found }),
+                (None, one) => one,
+            };
+        }
+        if is_left_out {
             return Ok(Next::LeftOut);
         }
-        self.next_of(&order, step.found)
+        self.next_of(&order, first)
     }
 
     /// The next match: of the end and the rules that are in force the one that begins first, and of several that begin

@@ -10,8 +10,7 @@ use Rattle.std.specs.Prelude.{Option, None, Some}
 use Rattle.std.specs.Global.{Global}
 use Rattle.std.proofs.Crossing as std
 use Rattle.std.proofs.MapsCrossing as maps
-use Rattle.fancy_program.proofs.ThreadsLaws.{prog_sends, prog_syncs}
-use Rattle.fancy_vm.proofs.ThreadsLaws.{scratch_sends}
+use Rattle.fancy_search.proofs.ThreadsLaws.{compiled_sends, compiled_syncs, scratch_sends}
 use Rattle.fancy_matches.proofs.ThreadsLaws.{regex_sends}
 use Rattle.fancy_scanner.specs.contracts.scanner.ScanTree as ScanTree
 use Rattle.fancy_scanner.specs.contracts.scanner.Scanner as Scanner
@@ -20,10 +19,10 @@ use Rattle.fancy_host.specs.contracts.searches.Searcher as Searcher
 use Rattle.fancy_host.specs.contracts.tree.CompiledTree as CompiledTree
 
 tree_sends : IsSend CompiledTree.the_field.row
-tree_sends = search (prog_sends, std.crosses, maps.crosses, sendable) depth 60 fits 20000
+tree_sends = search (compiled_sends, std.crosses, maps.crosses, sendable) depth 60 fits 20000
 
 tree_syncs : IsSync CompiledTree.the_field.row
-tree_syncs = search (prog_syncs, std.crosses, maps.crosses, sendable) depth 60 fits 20000
+tree_syncs = search (compiled_syncs, std.crosses, maps.crosses, sendable) depth 60 fits 20000
 
 searcher_sends : IsSend Searcher.the_row
 searcher_sends = search (tree_sends, tree_syncs, scratch_sends, std.crosses, sendable) depth 60 fits 20000

@@ -3,8 +3,8 @@ use Rattle.std.proofs.Common.{◌≡◌, Option, Result, ap, sym, subst}
 use Rattle.fancy_expr.specs.declared.error.Error.{Error}
 use Rattle.fancy_expr.specs.declared.error.Error.TheVariants.{Memory}
 use Rattle.fancy_steps.specs.SearchLimits.{EndsBy, StaysWithin, passed_by}
-use Rattle.fancy_vm.specs.Scratches.{cost_of, limits_of, passed_of}
-use Rattle.fancy_vm.specs.declared.runs.Scratch.{Scratch}
+use Rattle.fancy_search.specs.Scratches.{cost_of, limits_of, passed_of}
+use Rattle.fancy_search.specs.declared.scratch.Scratch.{Scratch}
 use Rattle.fancy_steps.specs.declared.search_limits.SearchLimit.{SearchLimit}
 use Rattle.fancy_host.specs.declared.options.FancyOptions.{FancyOptions}
 use Rattle.fancy_host.specs.Hosted.{limits, passed_in}

@@ -32,8 +32,8 @@ use Rattle.fancy_info.specs.declared.context.AnalyzeContext.{AnalyzeContext}
 use Rattle.fancy_compile.specs.declared.options.CompileOptions.{CompileOptions}
 use Rattle.fancy_matches.specs.Listing.{options_for}
 use Rattle.fancy_steps.specs.SearchLimits.{StaysWithin, passed_by}
-use Rattle.fancy_vm.specs.Scratches.{cost_of}
-use Rattle.fancy_vm.specs.declared.runs.Scratch.{Scratch}
+use Rattle.fancy_search.specs.Scratches.{cost_of}
+use Rattle.fancy_search.specs.declared.scratch.Scratch.{Scratch}
 use Rattle.fancy_steps.specs.declared.search_limits.SearchLimit.{SearchLimit}
 use Rattle.fancy_steps.specs.declared.search_limits.SearchLimits.{SearchLimits}
 use Rattle.fancy_search.specs.declared.request.Request.{Request}

@@ -7,7 +7,7 @@ ghost use Rattle.fancy_replace.specs.Outputs.{Grows, Holds};
 ghost use Rattle.fancy_replace.specs.Pieces.{as_limit};
 ghost use Rattle.fancy_search.specs.Searches.{HasSource, program};
 ghost use Rattle.fancy_steps.specs.SearchLimits.{StaysWithin};
-ghost use Rattle.fancy_vm.specs.Scratches.{limits_of, passed_of};
+ghost use Rattle.fancy_search.specs.Scratches.{Suits, limits_of, passed_of};
 ghost use Rattle.fancy_steps.specs.Tasks.{options_of as run_options_of, task_of};
 ghost use Rattle.fancy_host.specs.Rewritten.{FailsToRewrite, HoldsRewritten, WritesNew};
 ghost use Rattle.fancy_host.specs.Rewritten as rewritten;
@@ -20,8 +20,9 @@ use fancy_matches::searches::next_found;
 use fancy_matches::standing::Standing;
 use fancy_replace::output::{BoundedText, Output};
 use fancy_replace::replacer::Replacer;
+use fancy_search::scratch::Scratch;
 use fancy_search::search::Compiled;
-use fancy_vm::vm::{RunOptions, Scratch};
+use fancy_vm::vm::RunOptions;
 use std::alloc::{AllocError, Global};
 
 /// The text with its first `limit` matches replaced, all of them if that is 0, of which this many bytes are kept.
@@ -38,6 +39,7 @@ pub fn rewrite<R: Replacer>(
     requires fits { IsTrue (run_fits (task_of (program compiled.now) [] options.now)) }
     requires source { HasSource compiled.now }
     requires passed { passed_of scratch.old ≡ None }
+    requires suits { Suits compiled.now scratch.old }
     ensures rewrites { MatchResult
         result
         (HoldsRewritten
@@ -45,6 +47,7 @@ pub fn rewrite<R: Replacer>(
         (R.replacement_text replacement.now) room)
         (FailsToRewrite compiled.now text.now (run_options_of options.now) (as_limit limit)) }
     ensures limits { limits_of scratch.new ≡ limits_of scratch.old }
+    ensures suits { Suits compiled.now scratch.new }
     ensures stays { StaysWithin result (passed_of scratch.new) }
 {
     let most = most_of(limit);

@@ -10,8 +10,9 @@ use crate::writing::write_from;
 use fancy_expr::error::Error;
 use fancy_matches::found::Match;
 use fancy_matches::searches::FromSearch;
+use fancy_search::scratch::Scratch;
 use fancy_search::search::Compiled;
-use fancy_vm::vm::{RunOptions, Scratch};
+use fancy_vm::vm::RunOptions;
 use std::alloc::Global;
 
 /// What a list writes of a match.

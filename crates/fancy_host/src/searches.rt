@@ -11,8 +11,8 @@ use fancy_expr::error::Error;
 use fancy_expr::expr::ExprTree;
 use fancy_notation::notation::read_tree;
 use fancy_pattern::pattern::parse_tree;
+use fancy_search::scratch::Scratch;
 use fancy_search::search::Compiled;
-use fancy_vm::vm::Scratch;
 use std::alloc::{AllocError, Global};
 use std::sync::Arc;
 

@@ -3,7 +3,7 @@
 ghost use Rattle.std.specs.Prelude.{◌≡◌, [], IsTrue, MatchResult, None};
 ghost use Rattle.fancy_meaning.specs.Fits.{run_fits};
 ghost use Rattle.fancy_steps.specs.SearchLimits.{StaysWithin};
-ghost use Rattle.fancy_vm.specs.Scratches.{limits_of, passed_of};
+ghost use Rattle.fancy_search.specs.Scratches.{Suits, limits_of, passed_of};
 ghost use Rattle.fancy_steps.specs.Tasks.{options_of as run_options_of, task_of};
 ghost use Rattle.fancy_search.specs.Searches.{HasSource, program};
 ghost use Rattle.fancy_matches.specs.Regexes.{standing_of};
@@ -23,8 +23,9 @@ use fancy_matches::standing::Standing;
 use fancy_replace::output::BoundedText;
 use fancy_replace::replacer::NoExpand;
 use fancy_replace::template::Template;
+use fancy_search::scratch::Scratch;
 use fancy_search::search::Compiled;
-use fancy_vm::vm::{RunOptions, Scratch};
+use fancy_vm::vm::RunOptions;
 use std::alloc::Global;
 use std::collections::BTreeMap;
 
@@ -96,6 +97,7 @@ impl CompiledTree {
         if !self.compiled.fits(text, &running) {
             return FancyOutcome::unfit();
         }
+        scratch.forget_engine();
         scratch.limit(options.limits());
         let answer = self.compiled.search(alloc, text, &running, scratch);
         write_answer(&answer, spans);
@@ -117,6 +119,7 @@ impl CompiledTree {
         if !self.compiled.fits(text, &running) {
             return FancyOutcome::unfit();
         }
+        scratch.forget_engine();
         scratch.limit(options.limits());
         let found = self.compiled.search(alloc, text, &running, scratch);
         FancyOutcome::of_found(&found, scratch.passed())
@@ -137,7 +140,9 @@ impl CompiledTree {
             (task_of (program (compiled_of self.now)) [] options.now)) }
         requires width { width ≡ width_of F.form self.now }
         requires passed { passed_of scratch.old ≡ None }
+        requires suits { Suits (compiled_of self.now) scratch.old }
         ensures limits { limits_of scratch.new ≡ limits_of scratch.old }
+        ensures suits { Suits (compiled_of self.now) scratch.new }
         ensures writes { Writes
             F.form
             width
@@ -198,6 +203,7 @@ impl CompiledTree {
         if !self.compiled.fits("", &listing) {
             return FancyOutcome::unfit();
         }
+        scratch.forget_engine();
         scratch.limit(options.limits());
         let mut list = standing.standing();
         let outcome = self.write_rows::<F>(alloc, text, &listing, width, &mut list, room, scratch);
@@ -273,6 +279,7 @@ impl CompiledTree {
         requires fits { IsTrue (run_fits
             (task_of (program (compiled_of self.now)) [] options.now)) }
         requires passed { passed_of scratch.old ≡ None }
+        requires suits { Suits (compiled_of self.now) scratch.old }
         ensures rewrites { MatchResult
             result
             (HoldsRewritten
@@ -281,6 +288,7 @@ impl CompiledTree {
             (FailsToRewrite
             (compiled_of self.now) text.now (run_options_of options.now) (as_limit limit)) }
         ensures limits { limits_of scratch.new ≡ limits_of scratch.old }
+        ensures suits { Suits (compiled_of self.now) scratch.new }
         ensures stays { StaysWithin result (passed_of scratch.new) }
     {
         if is_literal {
@@ -336,6 +344,7 @@ impl CompiledTree {
         if !self.compiled.fits("", &listing) {
             return FancyOutcome::unfit();
         }
+        scratch.forget_engine();
         scratch.limit(options.limits());
         match self.replaced(
             alloc,

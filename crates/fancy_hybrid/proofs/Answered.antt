@@ -17,7 +17,7 @@ use Rattle.fancy_hybrid.proofs.CellLaws.{numbers_of_cells}
 
 module _ (e : Tree) (text : List ℕ) (pos : ℕ) (q : Search) (engine : Engine) (is : IsSearchFor e text pos q)
     (of : IsEngineOf q.unicode e engine) where
-  answered : answer q ≡ option_map (numbers_of (group_count e)) (find_str of.re text pos)
+  pub answered : answer q ≡ option_map (numbers_of (group_count e)) (find_str of.re text pos)
   answered =
       match_is_answer q e of.re is.plain is.tree of.captures
       ∙ ap (λ n. option_map (numbers_of n) (find_str of.re q.text q.pos)) (ap group_count is.tree ∙ numbered_has_as_many_groups 1 e)

@@ -1,4 +1,4 @@
-mod Answered
+pub mod Answered
 mod CellLaws
 mod Leftmost
 mod LookLaws

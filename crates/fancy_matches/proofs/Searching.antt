@@ -1,5 +1,5 @@
 -- A search of a regex: which options it may have, and that it answers as is promised.
-use Rattle.std.proofs.Common.{IfSome, ◌≡◌, ◌≤◌, ℕ, true, List, [], length, Option, Some, None, Ok, Err, is_some, option_map, refl, sym, ap, subst}
+use Rattle.std.proofs.Common.{IfSome, ◌≡◌, ◌≤◌, ℕ, true, List, [], length, Option, Some, None, Ok, is_some, option_map, refl, sym, ap, subst}
 use Rattle.std.proofs.Math.Logic.{∥∥₁_elim}
 use Rattle.std.proofs.Props.{props}
 use Rattle.std.proofs.lemmas.Bool.{and_parts, and_from}
@@ -8,24 +8,15 @@ use Rattle.std.specs.declared.vec.Vec.{Vec}
 use Rattle.std.specs.declared.alloc.Global.{Global}
 use Rattle.fancy_meaning.specs.Answer.{answer, search_of}
 use Rattle.fancy_meaning.specs.Fits.{run_fits}
-use Rattle.fancy_meaning.specs.Instr as plain_program
-use Rattle.fancy_meaning.specs.Config.{Outcome}
-use Rattle.fancy_meaning.specs.Machine as machine
 use Rattle.fancy_meaning.specs.MatchState.{Span}
 use Rattle.fancy_meaning.specs.Places.{is_place}
-use Rattle.fancy_meaning.specs.Premises.{Input, plan, IsAccepted, IsSpan, IsText}
-use Rattle.fancy_expr.specs.declared.error.Error.{Error}
-use Rattle.fancy_expr.specs.declared.error.Error.TheVariants as error
-use Rattle.fancy_vm.specs.Means.{IsMeaningPair}
-use Rattle.fancy_steps.specs.Outcomes.{RunAnswers, RunAnswersPair, first_pair}
-use Rattle.fancy_program.specs.Programs.{prog_of}
+use Rattle.fancy_meaning.specs.Premises.{Input, plan, IsSpan, IsText}
+use Rattle.fancy_steps.specs.Outcomes.{first_pair}
 use Rattle.fancy_steps.specs.Tasks.{options_of as run_options_of, task_of}
 use Rattle.fancy_program.specs.declared.insn.Prog.{Prog}
 use Rattle.fancy_steps.specs.declared.options.RunOptions.{RunOptions}
 use Rattle.fancy_search.specs.declared.search.Compiled.{Compiled}
-use Rattle.fancy_search.specs.Searches.{Bounds, HasSource, IsCompiledFrom, Promises, instructions_of, program}
-use Rattle.fancy_search.proofs.Bounded.{run_bounds}
-use Rattle.fancy_search.proofs.Searched.{accepted_input, run_promises}
+use Rattle.fancy_search.specs.Searches.{HasSource, IsCompiledFrom, Promises, PromisesPair, program}
 use Rattle.fancy_program.proofs.FitsLaws.{run_place}
 use Rattle.fancy_matches.specs.Listing.{AreSpans, begun_at, options_for}
 use Rattle.fancy_matches.specs.Regexes.{shown_match, with_numbers, with_span}
@@ -54,30 +45,6 @@ fits_listed prog base o asked text fits is =
     fits_at prog base o [] fits (subst (λ p. is_place [] p ≡ true) (sym (ap (λ q. q.pos) is)) (run_place (task_of prog [] base) fits))
     (ap (λ q. q.not_empty) is) (ap (λ q. q.leftmost_longest) is)
 
-pair_error : (r : Outcome) (e : Error) → RunAnswersPair r (Err e) → RunAnswers r (Err e)
-pair_error r (error.CompileError e) h = h
-pair_error r (error.RuntimeError l) h = h
-pair_error r error.Memory h = h
-pair_error r (error.TreeFault at) h = h
-pair_error r error.NestLimitExceeded h = h
-
--- what a search that answers the first pair alone has found, or why it has not
-module _ (i : Input) (compiled : Compiled) (text : List ℕ) (o : RunOptions) (from : IsCompiledFrom i compiled)
-    (fits : run_fits (task_of (program compiled) text o) ≡ true) where
-  accepted : IsAccepted i (length (prog_of (program compiled)).body)
-  accepted = subst (λ (p : plain_program.Prog). IsAccepted i (length p.body)) (sym from.program) (accepted_input i compiled text o from fits)
-
-  pub pair_found : (found : Option Span) → IsMeaningPair (prog_of (program compiled)) text (run_options_of o) found →
-      IsAccepted i (instructions_of i) × (found ≡ option_map first_pair (answer (search_of (plan i) text (run_options_of o))))
-  pair_found found means = (accepted_input i compiled text o from fits, means.answers i accepted from.program)
-
-  pub pair_fails : IsText text → (e : Error) → RunAnswersPair (machine.run (task_of (program compiled) text o)) (Err e) →
-      Promises i text (run_options_of o) (Err e) × Bounds i text (run_options_of o) (Err e)
-  pair_fails is e h = (
-    run_promises i compiled text o from fits (Err e) (pair_error _ e h) tt,
-    run_bounds i compiled text o from fits is.utf8 is.fits (Err e) (pair_error _ e h),
-  )
-
 -- ---- what was found lies in the text, whatever tree the program is of
 
 pub captures_sound : (compiled : Compiled) (text : List ℕ) (o : RunOptions) (numbers : Vec ℕ Global) → IsText text →
@@ -96,13 +63,13 @@ pair_is_span text pos start end (Some m) h e =
     subst (λ (p : Span). IsSpan text p × (pos ≤ p.1)) (sym (same_Some (start, end) (first_pair m) e)) (h.whole, h.on)
 
 pub pair_sound : (compiled : Compiled) (text : List ℕ) (o : RunOptions) (start end : ℕ) → IsText text →
-    run_fits (task_of (program compiled) text o) ≡ true → HasSource compiled →
-    IsMeaningPair (prog_of (program compiled)) text (run_options_of o) (Some (start, end)) → IsSpan text (start, end) × (o.pos ≤ end)
-pair_sound compiled text o start end is fits source means =
+    is_place text o.pos ≡ true → HasSource compiled →
+    ((i : Input) → IsCompiledFrom i compiled → PromisesPair i text (run_options_of o) (Ok (Some (start, end)))) →
+    IsSpan text (start, end) × (o.pos ≤ end)
+pair_sound compiled text o start end is at source promise =
     ∥∥₁_elim source (Prim.hlevel props) (λ from.
     pair_is_span text o.pos start end (answer (search_of (plan from.0) text (run_options_of o)))
-    (answer_sound (search_of (plan from.0) text (run_options_of o)) is (run_place (task_of (program compiled) text o) fits))
-    (pair_found from.0 compiled text o from.1 fits (Some (start, end)) means).1)
+    (answer_sound (search_of (plan from.0) text (run_options_of o)) is at) (promise from.0 from.1).1)
 
 -- ---- what is shown of an answer
 

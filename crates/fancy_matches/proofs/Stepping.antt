@@ -11,9 +11,9 @@ use Rattle.fancy_meaning.specs.Places.{is_place}
 use Rattle.fancy_meaning.specs.Premises.{Input, plan, IsText}
 use Rattle.fancy_steps.specs.Outcomes.{first_pair}
 use Rattle.fancy_steps.specs.SearchLimits.{StaysWithin, passed_by}
-use Rattle.fancy_vm.specs.Scratches.{cost_of, limits_of, passed_of}
+use Rattle.fancy_search.specs.Scratches.{cost_of, limits_of, passed_of}
 use Rattle.fancy_steps.specs.Tasks.{options_of as run_options_of, task_of}
-use Rattle.fancy_vm.specs.declared.runs.Scratch.{Scratch}
+use Rattle.fancy_search.specs.declared.scratch.Scratch.{Scratch}
 use Rattle.fancy_steps.specs.declared.search_limits.SearchLimits.{SearchLimits}
 use Rattle.fancy_steps.specs.declared.options.RunOptions.{RunOptions}
 use Rattle.fancy_search.specs.Searches.{HasSource, IsCompiledFrom, program}

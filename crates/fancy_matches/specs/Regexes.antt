@@ -12,7 +12,7 @@ use Rattle.fancy_expr.specs.declared.error.Error.{Error}
 use Rattle.fancy_expr.specs.declared.error.Error.TheVariants as error
 use Rattle.fancy_steps.specs.Outcomes.{first_pair}
 use Rattle.fancy_steps.specs.SearchLimits.{StaysWithin, passed_by}
-use Rattle.fancy_vm.specs.Scratches.{cost_of}
+use Rattle.fancy_search.specs.Scratches.{cost_of}
 use Rattle.fancy_steps.specs.Tasks.{options_of as run_options_of}
 use Rattle.fancy_steps.specs.declared.search_limits.SearchLimit.{SearchLimit}
 use Rattle.fancy_search.specs.Searches.{Bounds, IsCompiledFrom, Promises, instructions_of}

@@ -9,6 +9,8 @@ ghost use Rattle.fancy_meaning.specs.Premises.{Input};
 ghost use Rattle.fancy_expr.specs.Sound.{IsWellFormedTree};
 ghost use Rattle.fancy_steps.specs.Tasks.{options_of as run_options_of, task_of};
 ghost use Rattle.fancy_steps.specs.SearchLimits.{no_limits};
+ghost use Rattle.fancy_search.specs.Scratches.{Suits};
+ghost use Rattle.std.proofs.Props.{props};
 ghost use Rattle.fancy_search.specs.Searches.{HasSource, IsNestedOver, IsRefusedAs, input_of, program, search_fits};
 ghost use Rattle.fancy_matches.specs.Listing as list;
 
@@ -20,8 +22,9 @@ use crate::standing::Standing;
 use fancy_expr::error::Error;
 use fancy_expr::expr::ExprTree;
 use fancy_program::threads::crosses_threads;
+use fancy_search::scratch::Scratch;
 use fancy_search::search::{Compiled, SearchOptions};
-use fancy_vm::vm::{RunOptions, Scratch, SearchLimit, SearchLimits};
+use fancy_vm::vm::{RunOptions, SearchLimit, SearchLimits};
 use std::alloc::{AllocError, Global};
 use std::sync::Arc;
 
@@ -40,6 +43,7 @@ pub struct Regex {
     scratch: Scratch,
     ghost fits: { IsTrue (run_fits (task_of (program (arc_value compiled)) [] options.run)) },
     ghost source: { HasSource (arc_value compiled) },
+    ghost suits: { Suits (arc_value compiled) scratch } by { Prim.hlevel props },
 }
 
 // Not derived: whoever owns one calls this drop, and would prove a derived one again (docs/GATE.md).

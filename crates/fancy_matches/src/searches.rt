@@ -5,9 +5,9 @@ ghost use Rattle.fancy_meaning.specs.Fits.{run_fits};
 ghost use Rattle.fancy_meaning.specs.MatchState.{Span};
 ghost use Rattle.fancy_meaning.specs.Premises.{Input};
 ghost use Rattle.fancy_steps.specs.SearchLimits.{StaysWithin};
-ghost use Rattle.fancy_vm.specs.Scratches.{limits_of, passed_of};
 ghost use Rattle.fancy_steps.specs.Tasks.{options_of as run_options_of, task_of};
 ghost use Rattle.fancy_steps.specs.Outcomes.{first_pair};
+ghost use Rattle.fancy_search.specs.Scratches.{Suits, limits_of, passed_of};
 ghost use Rattle.fancy_search.specs.Searches.{HasSource, IsCompiledFrom, program};
 ghost use Rattle.fancy_matches.specs.Regexes.{EndsOn, Shows, StepsBy, StepsToMatch, numbers_in, shown_captures, shown_match, span_of, standing_of, with_numbers, with_span};
 
@@ -15,8 +15,9 @@ use crate::found::{Captures, Match};
 use crate::standing::Standing;
 use fancy_characters::places::is_place;
 use fancy_expr::error::Error;
+use fancy_search::scratch::Scratch;
 use fancy_search::search::Compiled;
-use fancy_vm::vm::{RunOptions, Scratch, run_spans};
+use fancy_vm::vm::RunOptions;
 use std::alloc::Global;
 
 /// What a search reports of a match: where it is, or all its groups.
@@ -42,6 +43,7 @@ pub trait FromSearch<'t>: Sized + Drop {
     ) -> Result<Option<Self>, Error>
         requires fits { IsTrue (run_fits (task_of (program compiled.now) text.now options.now)) }
         requires source { HasSource compiled.now }
+        requires suits { Suits compiled.now scratch.old }
         ensures promise { (i : Input)
             → IsCompiledFrom i compiled.now
             → Shows i text.now (run_options_of options.now) show (seen text.now) result }
@@ -52,7 +54,8 @@ pub trait FromSearch<'t>: Sized + Drop {
             → show x ≡ seen text.now numbers
             → span x ≡ first_pair numbers)) }
         ensures limits { limits_of scratch.new ≡ limits_of scratch.old }
-        ensures stays { StaysWithin result (passed_of scratch.new) };
+        ensures stays { StaysWithin result (passed_of scratch.new) }
+        ensures suits { Suits compiled.now scratch.new };
 
     /// Where it begins and ends, in bytes of the text.
     fn span(&self) -> (usize, usize)
@@ -76,11 +79,7 @@ impl<'t> FromSearch<'t> for Match<'t> {
         options: &RunOptions,
         scratch: &mut Scratch,
     ) -> Result<Option<Match<'t>>, Error> {
-        if compiled.is_too_short(text, options.pos) {
-            scratch.limit(scratch.limits());
-            return Ok(None);
-        }
-        match run_spans(alloc, compiled.program(), text, options, scratch) {
+        match compiled.find(alloc, text, options, scratch) {
             Ok(None) => Ok(None),
             Ok(Some((start, end))) => Ok(Some(Match { text, start, end })),
             Err(error) => Err(error),
@@ -133,6 +132,7 @@ pub fn next_found<'t, F: FromSearch<'t>>(
 ) -> Result<Option<F>, Error>
     requires fits { IsTrue (run_fits (task_of (program compiled.now) [] options.now)) }
     requires source { HasSource compiled.now }
+    requires suits { Suits compiled.now scratch.old }
     ensures steps { (i : Input)
         → IsCompiledFrom i compiled.now
         → StepsBy i text.now (run_options_of options.now) F.show (F.seen text.now)
@@ -141,6 +141,7 @@ pub fn next_found<'t, F: FromSearch<'t>>(
         suc (length text.now) - standing.new.pos < suc (length text.now) - standing.old.pos)) }
     ensures limits { limits_of scratch.new ≡ limits_of scratch.old }
     ensures stays { passed_of scratch.old ≡ None → StaysWithin result (passed_of scratch.new) }
+    ensures suits { Suits compiled.now scratch.new }
 {
     'searches: while is_place(text.as_bytes(), standing.pos) {
         let here = standing.options(options);
@@ -171,6 +172,7 @@ pub fn next_match<'t>(
 ) -> Result<Option<Match<'t>>, Error>
     requires fits { IsTrue (run_fits (task_of (program compiled.now) [] options.now)) }
     requires source { HasSource compiled.now }
+    requires suits { Suits compiled.now scratch.old }
     ensures steps { (i : Input)
         → IsCompiledFrom i compiled.now
         → StepsToMatch i text.now (run_options_of options.now)
@@ -179,6 +181,7 @@ pub fn next_match<'t>(
         suc (length text.now) - standing.new.pos < suc (length text.now) - standing.old.pos)) }
     ensures limits { limits_of scratch.new ≡ limits_of scratch.old }
     ensures stays { passed_of scratch.old ≡ None → StaysWithin result (passed_of scratch.new) }
+    ensures suits { Suits compiled.now scratch.new }
 {
     next_found(alloc, compiled, text, options, standing, scratch)
 }

@@ -1,4 +1,4 @@
-//! Where the atoms of a pattern stand, so that leaves of its tree can be shown in it.
+//! The positions of the atoms of a pattern, so that leaves of its tree can be shown in it.
 
 ghost use Rattle.std.specs.Prelude.{◌≡◌, List, length, map, chars, IfOk};
 ghost use Rattle.fancy_pattern.specs.AtomSpans.{AreAtomSpans, class_end, is_class_close, leaf_count, left_of, leaves_of, one_at_least, span_end, spans_from};
@@ -13,18 +13,24 @@ use fancy_tokens::kept::{Kept, Placed};
 use fancy_tokens::tokens::{Opening, Target, Token};
 use std::alloc::{AllocError, Global};
 
-/// An atom of a pattern: the characters of the pattern from `start` up to `end`, and how many leaves of the tree stand for
-/// it. A leaf is a node without nodes below it; a flags item is no atom.
+/// An atom of a pattern, and how many leaves of the tree it becomes. A leaf is a node without nodes below it.
 #[derive(Clone, Copy, Debug, PartialEq, Eq)]
 pub struct AtomSpan {
+    /// Where it begins, in characters of the pattern, from 0.
     pub start: usize,
+    /// Where it ends: the number of characters before that.
     pub end: usize,
+    /// One, or one for each group that has the name, if the atom names groups.
     pub leaves: usize,
 }
 
-/// The atoms of a pattern, in the order in which they stand: characters, escapes, classes, references, and conditions that
-/// ask for a group. The leaves of the tree that the pattern spells, but for empty ones, stand in the same order. An error is
-/// a request for memory that was refused.
+/// The atoms of a pattern, from left to right: characters, escapes, classes, references, and conditions on a group. A
+/// flags item is no atom. The leaves of the tree of the pattern, but for empty ones, are in the same order. A pattern with
+/// a fault has its atoms too, as far as it can be read.
+///
+/// # Errors
+///
+/// `AllocError` if an allocation fails; there is no other.
 pub fn atom_spans(
     alloc: Global,
     pattern: &str,

@@ -21,10 +21,10 @@ pub(crate) fn fault_at(kind: ErrorKind, text: &[char]) -> Fault
     }
 }
 
-/// Why a pattern has no tree.
+/// Why a pattern has no tree. As text it is `at byte 3: a parenthesis is not closed: expected ..`, or `out of memory`.
 #[derive(Debug, Drop)]
 pub enum PatternError {
-    /// The pattern cannot be read: the byte of the fault, and what is wrong there.
+    /// The pattern cannot be read. `at` is the byte of the pattern, from 0, and `kind` is what is wrong there.
     Parse { at: usize, kind: ErrorKind },
     /// An allocation failed.
     Memory,

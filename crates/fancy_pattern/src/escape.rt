@@ -28,10 +28,19 @@ fn push_escaped(out: &mut String, c: char) -> Result<(), AllocError>
     out.push(c)
 }
 
-/// A pattern that spells the literals of the text, whatever flags hold.
+/// Returns a pattern that matches the text itself, under any flags; under `i` in any case.
 ///
-/// A backslash stands before each of `\.+*?()|[]{}^$#` and before space, tab, LF and CR. The answer is new text in
-/// UTF-8. The only error is out of memory.
+/// It has a backslash before each of `\.+*?()|[]{}^$#`, and before space, tab, LF and CR, which `x` would ignore.
+///
+/// # Errors
+///
+/// `AllocError` if an allocation fails; there is no other.
+///
+/// # Examples
+///
+/// ```
+/// let pattern = escape(alloc, "1+1 = 2")?; // 1\+1\ =\ 2
+/// ```
 pub fn escape(alloc: Global, text: &str) -> Result<String, AllocError>
     ensures value { IfOk result (λ s. string_bytes s
         ≡ encode_utf8_all (escaped (chars text.now))) }

@@ -31,12 +31,25 @@ use fancy_tokens::tokens::{Opening, Token};
 use std::alloc::{AllocError, Global};
 use std::collections::BTreeSet;
 
-/// The tree that a pattern spells, and what comes with it. The tree passes `is_well_formed`.
+/// Parses a pattern: its tree, with the names and numbers of its groups. The tree passes `is_well_formed`.
 ///
-/// Where the pattern spells none, `PatternError::Parse` has the byte and the kind of its first fault: where a token begins
-/// that cannot stand there, where what follows cannot be read as a token, or the pattern's length if more is needed.
-/// A call of a name that several groups have is a fault at the byte where the name begins, and so is a reference to a
-/// name that more than 100 groups have, or a condition on one. Out of memory is `PatternError::Memory`.
+/// The syntax is that of fancy-regex 0.20, with that of the crate `regex` in it (docs/PATTERNS.md has a line for each item).
+/// Groups are numbered from 1 by their opening parentheses. A group may be referred to before it, and whether a group
+/// with that name or number exists is not checked here: the analysis of the tree does it.
+///
+/// # Errors
+///
+/// `Parse` has the kind of the first fault and its byte, from 0. That is the byte of the token that is not allowed there,
+/// or of the text that is no token. It is the pattern's length if the pattern ends too early. A name is at fault at its
+/// first byte if it is called and several groups have it. So is one that is referred to or asked for by a condition, if
+/// more than 100 groups have it. `Memory` is returned if an allocation fails.
+///
+/// # Examples
+///
+/// ```
+/// let tree = parse_tree(alloc, "(?<a>x)|y", ParseOptions::default())?; // total_groups: 1
+/// let fault = parse_tree(alloc, "a(b", ParseOptions::default()); // Err(Parse { at: 3, kind: UnclosedOpenParen })
+/// ```
 pub fn parse_tree(
     alloc: Global,
     pattern: &str,

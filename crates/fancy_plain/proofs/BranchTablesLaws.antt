@@ -21,9 +21,16 @@ use Rattle.fancy_plain.specs.Runs.{FailsAtOnce}
 use Rattle.fancy_plain.specs.Searches.{after_steps_of, next_of}
 use Rattle.fancy_plain.specs.Views.{state_of, test_of}
 use Rattle.fancy_plain.proofs.BackLaws.{steps_then}
-use Rattle.fancy_plain.proofs.KeptRunsLaws.{pushed_tells}
 use Rattle.fancy_plain.proofs.RunLaws.{refused_by_test, test_fails}
 use Rattle.fancy_plain.proofs.SearchLaws.{next_there}
+
+-- in a list with one more at its end
+pushed_tells : {A : Type 0} (items : List A) (new : A) (i : ℕ) (item : A) → slice_get (items ++ new ∷ []) i ≡ Some item →
+    (new ≡ item) ⊎ (slice_get items i ≡ Some item)
+pushed_tells [] new zero item e = inl (same_Some _ _ e)
+pushed_tells [] new (suc i) item e = absurd (none-some item e)
+pushed_tells (x ∷ xs) new zero item e = inr e
+pushed_tells (x ∷ xs) new (suc i) item e = pushed_tells xs new i item e
 
 pub below_or : (c below : ℕ) → c < below + 1 → (c ≡ below) ⊎ (c < below)
 below_or c below lt = elim (cases_lt c below) [

@@ -16,7 +16,7 @@ use Rattle.fancy_backtrack.specs.declared.loops.LoopChoice.TheVariants as loop_c
 use Rattle.fancy_expr.specs.Views.{bound_of}
 use Rattle.fancy_plain.specs.CountedWays.{PassesMost, PassesSome}
 use Rattle.fancy_plain.specs.Runs.{IsBody, Excludes}
-use Rattle.fancy_plain.specs.OnePass.{AreDeadEnds, IsDeadEnd, Loses, Walks, config_at}
+use Rattle.fancy_plain.specs.OnePass.{Loses, Walks, config_at}
 use Rattle.fancy_backtrack.specs.Loops.{loop_of}
 use Rattle.fancy_plain.proofs.RunLaws.{fails_at_once, test_fails}
 use Rattle.fancy_backtrack.proofs.MemoLaws.{counter_loop_by}
@@ -115,14 +115,13 @@ module _ (base : plain.NfaConfig) (searcher : Searcher) (bounds : code.Loop) (he
       ∙ ap (λ t. plain.Tries true (record (at_body c place) { counters = t ∷ base.counters }) []) (next_is c place))
 
   -- one past those
-  goes_on : (c place : ℕ) (sure : Bool) → (sure ≡ true → IsDeadEnd searcher after place) → is_last loop.hi c ≡ false → nat_lt c loop.lo ≡ false →
-      Walks searcher sure (at_head c place) (at_body (next_count loop.lo loop.hi c) place)
-  goes_on c place sure dead goes enough =
+  goes_on : (c place : ℕ) → is_last loop.hi c ≡ false → nat_lt c loop.lo ≡ false →
+      Walks searcher false (at_head c place) (at_body (next_count loop.lo loop.hi c) place)
+  goes_on c place goes enough =
       tries_first searcher (nfa_state.CounterLoop bounds after) (at_head c place) there true (at_body (next_count loop.lo loop.hi c) place)
       (config_at base after place)
       (counter_loop_by loop after (at_head c place) (counter c) base.counters place (counter c ∷ base.counters) loop_choice.InOrOut refl refl (goes, enough, greedy)
       ∙ ap (λ t. plain.Tries true (record (at_body c place) { counters = t ∷ base.counters }) (config_at base after place ∷ [])) (next_is c place))
-      sure dead
 
   -- the character, and back to the head
   goes_round : (c i j : ℕ) → past_char (searcher.text).now (Test searcher test) i ≡ Some j → Walks searcher true (at_body c i) (at_head c j)
@@ -132,41 +131,38 @@ module _ (base : plain.NfaConfig) (searcher : Searcher) (bounds : code.Loop) (he
       (goes searcher (nfa_state.Character test) (at_body c i) body.0 taken (ap (plain.goes_past (at_body c i)) past))
       (goes searcher (nfa_state.Jump head) taken body.1 (at_head c j) refl)
 
-  -- an iteration, behind so many: it is sure where it has to be made, or what stands behind the loop is a dead end
-  iterates : (n i j : ℕ) (sure : Bool) → (sure ≡ true → loop.lo ≤ n → IsDeadEnd searcher after i) → n < bounds.hi →
+  -- an iteration, behind so many: it is sure where it has to be made
+  iterates : (n i j : ℕ) (sure : Bool) → (sure ≡ true → n < loop.lo) → n < bounds.hi →
       past_char (searcher.text).now (Test searcher test) i ≡ Some j → Walks searcher sure (at_head (counts n) i) (at_head (counts (suc n)) j)
-  iterates n i j sure dead below past =
+  iterates n i j sure few below past =
       subst (λ c. Walks searcher sure (at_head (counts n) i) (at_head c j)) (counted_more loop.lo loop.hi n)
       (onward searcher sure (at_head (counts n) i) (at_body (next_count loop.lo loop.hi (counts n)) i) (at_head (next_count loop.lo loop.hi (counts n)) j)
       enters (goes_round (next_count loop.lo loop.hi (counts n)) i j past))
     where
+      into : plain.NfaConfig
+      into = at_body (next_count loop.lo loop.hi (counts n)) i
+
       goes_by : is_last loop.hi (counts n) ≡ false
       goes_by = may_go_on loop.lo bounds.hi n below
 
-      enters : Walks searcher sure (at_head (counts n) i) (at_body (next_count loop.lo loop.hi (counts n)) i)
+      enters : Walks searcher sure (at_head (counts n) i) into
       enters =
           ⊎_elim
-          (λ lt. as_sure searcher sure (at_head (counts n) i) (at_body (next_count loop.lo loop.hi (counts n)) i)
-          (goes_in (counts n) i goes_by (counted_few loop.lo loop.hi n lt)))
-          (λ ge. goes_on (counts n) i sure (λ e. dead e ge) goes_by (counted_enough loop.lo loop.hi n ge)) (cases_lt n loop.lo)
-
-  -- so it is wherever one more iteration was made than has to be
-  abbrev pub IsSureOver : (n from to : ℕ) → Type 0
-  IsSureOver n from to = (k i : ℕ) → loop.lo ≤ k → k < n → from ≤ i → i < to → IsDeadEnd searcher after i
+          (λ lt. as_sure searcher sure (at_head (counts n) i) into (goes_in (counts n) i goes_by (counted_few loop.lo loop.hi n lt)))
+          (λ ge. joined searcher false true sure (at_head (counts n) i) into into
+          (λ e. absurd (let lt = few e in let no : ⊥ = omega (arith, lt, ge) in no))
+          (goes_on (counts n) i goes_by (counted_enough loop.lo loop.hi n ge)) (remains searcher true into)) (cases_lt n loop.lo)
 
   -- all of them
-  iterates_all : (n from to : ℕ) (sure : Bool) → (sure ≡ true → IsSureOver n from to) → n ≤ bounds.hi → PassesSome searcher test n from to →
+  iterates_all : (n from to : ℕ) (sure : Bool) → (sure ≡ true → n ≤ loop.lo) → n ≤ bounds.hi → PassesSome searcher test n from to →
       Walks searcher sure (at_head 0 from) (at_head (counts n) to)
-  iterates_all zero from to sure dead below e =
+  iterates_all zero from to sure few below e =
       subst (λ c. Walks searcher sure (at_head 0 from) (at_head c to)) (counted_none loop.lo loop.hi)
       (subst (λ i. Walks searcher sure (at_head 0 from) (at_head 0 i)) e (remains searcher sure (at_head 0 from)))
-  iterates_all (suc n) from to sure dead below (i, (some, past)) =
-      let room = passes_room searcher test n from i some in
-      let further = past_char_further (searcher.text).now (Test searcher test) i to past in
+  iterates_all (suc n) from to sure few below (i, (some, past)) =
       joined searcher sure sure sure (at_head 0 from) (at_head (counts n) i) (at_head (counts (suc n)) to) (λ e. (e, e))
-      (iterates_all n from i sure (λ e k at enough more above before. dead e k at enough (omega (arith, more)) above (omega (arith, before, further)))
-      (omega (arith, below)) some)
-      (iterates n i to sure (λ e enough. dead e n i enough (omega arith) (omega (arith, room)) further) (omega (arith, below)) past)
+      (iterates_all n from i sure (λ e. let le = few e in omega (arith, le)) (omega (arith, below)) some)
+      (iterates n i to sure (λ e. let le = few e in omega (arith, le)) (omega (arith, below)) past)
 
   -- ---- out of the loop
 
@@ -206,22 +202,22 @@ module _ (base : plain.NfaConfig) (searcher : Searcher) (bounds : code.Loop) (he
         subst (λ i. Walks searcher true (config_at base enter from) (record (at_head 0 from) { at = i })) behind
         (goes searcher nfa_state.CounterBegin (config_at base enter from) begins (record (at_head 0 from) { at = enter + 1 }) refl)
 
-    comes : (sure : Bool) → (sure ≡ true → IsSureOver made from to) → Walks searcher sure (config_at base enter from) (at_head (counts made) to)
-    comes sure dead =
+    comes : (sure : Bool) → (sure ≡ true → made ≤ loop.lo) → Walks searcher sure (config_at base enter from) (at_head (counts made) to)
+    comes sure few =
         joined searcher true sure sure (config_at base enter from) (at_head 0 from) (at_head (counts made) to) (λ e. (refl, e)) begins_at
-        (iterates_all made from to sure dead (omega arith) most.1)
+        (iterates_all made from to sure few (omega arith) most.1)
 
     pub falls_short : 0 < left → made < bounds.lo → Loses searcher (config_at base enter from)
     falls_short some few =
         loses_behind searcher (config_at base enter from) (at_head (counts made) to)
-        (comes true (λ e k i enough more above below. absurd (let no : ⊥ = omega (arith, few, enough, more) in no)))
+        (comes true (λ e. omega (arith, few)))
         (fails_short (counts made) to (may_go_on loop.lo bounds.hi made (let le = most.0 in omega (arith, some, le)))
         (counted_few loop.lo loop.hi made few) (most.2 some))
 
-    leaves_sure : (sure : Bool) → (sure ≡ true → IsSureOver made from to) → (0 < left → bounds.lo ≤ made) → length (searcher.text).now < usize_max →
+    pub comes_past : (sure : Bool) → (sure ≡ true → made ≤ loop.lo) → (0 < left → bounds.lo ≤ made) → length (searcher.text).now < usize_max →
         bounds.hi ≤ usize_max → Walks searcher sure (config_at base enter from) (config_at base after to)
-    leaves_sure sure dead enough fits small =
-        onward searcher sure (config_at base enter from) (at_head (counts made) to) (config_at base after to) (comes sure dead)
+    comes_past sure few enough fits small =
+        onward searcher sure (config_at base enter from) (at_head (counts made) to) (config_at base after to) (comes sure few)
         (⊎_elim (λ none. leaves_last (counts made) to (all_made none)) (λ some.
         leaves (counts made) to (may_go_on loop.lo bounds.hi made (let le = most.0 in omega (arith, some, le)))
         (counted_enough loop.lo loop.hi made (enough some)) (most.2 some)) (cases_lt left 1))
@@ -232,14 +228,3 @@ module _ (base : plain.NfaConfig) (searcher : Searcher) (bounds : code.Loop) (he
             subst (λ n. is_last loop.hi (counts n) ≡ true) same (may_not bounds.lo bounds.hi (⊎_elim (λ lt. lt)
             (λ ge. let within = passes_within searcher test made from to most.1 (omega (arith, ge, same)) in
             let room = passes_room searcher test made from to most.1 in omega (arith, ge, same, within, room, fits)) (cases_lt bounds.hi usize_max)))
-
-    pub comes_past : (sure : Bool) → (sure ≡ true → made ≤ loop.lo) → (0 < left → bounds.lo ≤ made) → length (searcher.text).now < usize_max →
-        bounds.hi ≤ usize_max → Walks searcher sure (config_at base enter from) (config_at base after to)
-    comes_past sure few enough fits small =
-        leaves_sure sure (λ e k i over more above below. absurd (let le = few e in let no : ⊥ = omega (arith, le, over, more) in no)) enough fits small
-
-    -- where what stands behind the loop is a dead end at each place that was passed
-    pub surely_past : AreDeadEnds searcher after from to → (0 < left → bounds.lo ≤ made) → length (searcher.text).now < usize_max →
-        bounds.hi ≤ usize_max → Walks searcher true (config_at base enter from) (config_at base after to)
-    surely_past dead enough fits small =
-        leaves_sure true (λ e k i over more above below. dead i above below) enough fits small

@@ -35,9 +35,6 @@ use Rattle.fancy_plain.specs.FirstSets.{is_begun_by, may_begin}
 use Rattle.fancy_plain.specs.RequiredBytes.{AreRequired, lacks}
 use Rattle.fancy_plain.specs.Views.{state_of}
 use Rattle.fancy_plain.specs.Ways.{CountsVisits, HasNoWayAt, IsFirstWay, IsMemoOf, IsSeenAs, listed}
-use Rattle.fancy_plain.specs.FoundEnds.{ChoicesEndAt, IsBareHead}
-use Rattle.fancy_plain.specs.KeptEnds.{EndsFrom}
-use Rattle.fancy_plain.proofs.FoundEndsLaws.{choice_ends, none_noted}
 use Rattle.fancy_plain.proofs.RequiredBytesLaws.{lacks_left}
 
 -- ---- a search has one end
@@ -236,29 +233,6 @@ module _ (states : Bor (List code.NfaState)) (text : Bor (List ℕ)) (nfa : Nfa)
       (ended searcher known place there n
       (h (plain.first_config place) (plain.first_search known) (search_at_start (continuation_of searcher) m known place path frames visits have)
       (here_at_start (continuation_of searcher) m known place path frames visits have)))
-
-  -- from each choice that it kept a search ends there, if no group was closed
-  choices_end : (there : NfaConfig) (n : Memo) → Finds (Ok (Some there)) n → closed_after [] n.trail.entries.items ≡ [] →
-      ChoicesEndAt text.now nfa n there.place
-  choices_end there n h closed c is_choice head =
-      let x = ends (Ok (Some there)) n h in
-      let t = x.1.1.0 in
-      let here = x.1.1.1.2 in
-      let entries = n.trail.entries.items in
-      let none = sym here.spans ∙ ap (closed_after []) (take_all (length entries) entries (omega arith)) ∙ closed in
-      let known = subst (λ l. AreMemoized text.now nfa.unicode (map state_of l) memo.0) (sym same) memo.1.1 in
-      subst (λ l. EndsFrom text.now nfa.unicode l c.config.at c.config.place there.place) same
-      (subst (λ i. EndsFrom text.now nfa.unicode states.now c.config.at c.config.place i) (sym here.place)
-      (choice_ends text.now nfa.unicode states.now place memo.0 is_text at known x.0 t x.1.0 x.1.1.1.0 none entries (length entries)
-      (choices_of n.frames) c x.1.1.1.1.frames closed is_choice (subst (λ l. IsBareHead l c) (sym same) head)))
-
-  pub way_leads : (found : Option NfaConfig) (there : NfaConfig) (n : Memo) → Finds (Ok found) n → found ≡ Some there → (w : Way) →
-      w.end ≡ there.place → ((g : ℕ) → listed w.spans.items g ≡ spans_of (closed_after [] n.trail.entries.items) g) →
-      w.spans.items ≡ [] → ChoicesEndAt text.now nfa n w.end
-  way_leads found there n h is w end same_spans none =
-      subst (ChoicesEndAt text.now nfa n) (sym end)
-      (choices_end there n (subst (λ o. Finds (Ok o) n) is h)
-      (none_noted (closed_after [] n.trail.entries.items) (λ g. sym (same_spans g) ∙ ap (λ l. listed l g) none)))
 
 pub counted_by : (text : List ℕ) (f : Nfa) (place : ℕ) (memo : Memo) (known : Pair → Bool) → HaveFailed memo known →
     (r : Result FirstWay Error) →

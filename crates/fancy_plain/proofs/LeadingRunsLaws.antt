@@ -444,7 +444,7 @@ module _ (states : Bor (List NfaState)) (text : Bor (List ℕ)) (f : Nfa) (same 
         let runs = subst (RunsOn nfa_searcher leads.test i) last
         (runs_over nfa_searcher leads.test i (to - i) (λ k least most. passes_there k (omega (arith, low, least)) (omega (arith, most, high)))) in
         runs_out nfa_searcher leads.test i to runs no_more base leads.head (leads.head + 1) (leads.run).exit run_there.splits
-        (run_there.body, ap (slice_get states.now) behind ∙ run_there.again) false (λ e. not_sure e)
+        (run_there.body, ap (slice_get states.now) behind ∙ run_there.again)
 
     no_group : leads.opens ≡ 0
     no_group = go leads.opens leads.groups

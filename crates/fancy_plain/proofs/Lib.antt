@@ -13,13 +13,8 @@ pub mod KeptLaws
 pub mod FirstSetLaws
 pub mod RequiredBytesLaws
 pub mod GroupSpansLaws
-pub mod DeadEndLaws
 pub mod OnePassLaws
 pub mod CountedLaws
-pub mod BranchLoopsLaws
-pub mod KeptRunsLaws
-pub mod KeptEndsLaws
-pub mod FoundEndsLaws
 pub mod BranchTablesLaws
 pub mod FailingBranchesLaws
 pub mod LeadingRunsLaws

@@ -1,5 +1,5 @@
 -- Ways that a search comes to without taking a choice back.
-use Rattle.std.proofs.Common.{◌≡◌, ◌≤◌, ◌<◌, ◌+◌, ◌-◌, ◌&&◌, ◌∷◌, ℕ, zero, suc, true≢false, Bool, true, false, List, [], Option, Some, None, Result, Ok, Err, IfOk, IsTrue, if◌then◌else◌, option_map, map, not, slice_get, slice_index_or, refl, sym, ap, ap₂, ◌∙◌, subst, arith}
+use Rattle.std.proofs.Common.{◌≡◌, ◌≤◌, ◌<◌, ◌+◌, ◌-◌, ◌&&◌, ◌∷◌, ℕ, zero, suc, true≢false, Bool, true, false, List, [], Option, Some, None, Result, Ok, Err, IfOk, IsTrue, if◌then◌else◌, option_map, map, slice_get, slice_index_or, refl, sym, ap, ap₂, ◌∙◌, subst, arith}
 use Rattle.std.proofs.lemmas.Bool.{cond-false}
 use Rattle.std.proofs.lemmas.Str.{len_utf8_bounds}
 use denote.Bor.{Bor}
@@ -23,10 +23,10 @@ use Rattle.fancy_plain.specs.declared.search.Searcher.{Searcher}
 use Rattle.fancy_plain.specs.declared.one_pass.OnePass.{OnePass}
 use Rattle.fancy_plain.specs.declared.one_pass.OnePass.TheVariants as one_pass
 use Rattle.fancy_plain.specs.declared.nfa.Nfa.{Nfa}
-use Rattle.fancy_plain.specs.AsciiRuns.{AllPass, is_before}
+use Rattle.fancy_plain.specs.AsciiRuns.{AllPass}
 use Rattle.fancy_plain.specs.Runs.{FailsFrom, IsBody, Passes}
 use Rattle.fancy_plain.specs.Searches.{after_steps_of, next_of}
-use Rattle.fancy_plain.specs.OnePass.{AreBranches, AreFails, EndsOnePass, EndsOnePassWith, Finds, IsBlank, IsChoice, IsDeadEnd, IsFirstTest, IsOnePass, IsOnePassWay, IsSeenWay, Loses, RunsLazily, RunsOn, RunsPast, Succeeds, Walks, closed_by, config_at, opened_at}
+use Rattle.fancy_plain.specs.OnePass.{AreBranches, AreFails, EndsOnePass, EndsOnePassWith, Finds, IsBlank, IsChoice, IsOnePass, IsOnePassWay, IsSeenWay, Loses, RunsOn, RunsPast, Succeeds, Walks, closed_by, config_at, opened_at}
 use Rattle.fancy_plain.specs.declared.counted_ways.Passed.{Passed}
 use Rattle.fancy_plain.specs.declared.counted_ways.Passed.TheVariants as passed
 use Rattle.fancy_plain.specs.declared.group_spans.GroupSpans.{GroupSpans}
@@ -37,7 +37,7 @@ use Rattle.fancy_plain.specs.Ways.{HasNoWayAt}
 use Rattle.fancy_plain.specs.Views.{state_of, test_of}
 use Rattle.fancy_plain.proofs.BackLaws.{steps_then}
 use Rattle.fancy_plain.proofs.FirstWayLaws.{finds, same_end, way_at}
-use Rattle.fancy_plain.proofs.RunLaws.{excluded_by, passes_by}
+use Rattle.fancy_plain.proofs.RunLaws.{passes_by}
 use Rattle.fancy_plain.proofs.SearchLaws.{next_there}
 
 -- a character that is taken moves on
@@ -111,20 +111,10 @@ module _ (searcher : Searcher) where
       )
 
   -- back to the beginning
-  goes_back : (frames : List plain.Frame) (f : Search) → f.frames ≡ frames → AreFails searcher frames →
+  goes_back : (frames : List plain.Frame) (f : Search) → f.frames ≡ frames → AreFails frames →
       (steps : ℕ) × ((g : Search) × (after_steps_of searcher steps (TakesBack f) ≡ Ends None g))
   goes_back [] f e h = (1, (f, ap (λ l. plain.back_to l f) e))
-  goes_back (Other s ∷ frames) f e h =
-      let on : Search = record f { frames = frames } in
-      let x = h.0 s on refl refl in
-      let y = goes_back frames x.1.0 x.1.1.1 h.1 in (
-        suc (x.0 + y.0),
-        (
-          y.1.0,
-          ap (λ l. after_steps_of searcher (x.0 + y.0) (plain.back_to l f)) e
-              ∙ steps_then searcher x.0 y.0 (TakesUp s on) (TakesBack x.1.0) x.1.1.0 ∙ y.1.1,
-        ),
-      )
+  goes_back (Other s ∷ frames) f e h = absurd h
   goes_back (Fails s ∷ frames) f e h =
       let x = goes_back frames (plain.with_failed (pair_of s) (record f { frames = frames })) refl h in
       (suc x.0, (x.1.0, ap (λ l. after_steps_of searcher x.0 (plain.back_to l f)) e ∙ x.1.1))
@@ -156,7 +146,7 @@ module _ (searcher : Searcher) where
   counted_blank true f blank = blank
   counted_blank false f blank = blank
 
-  counted_fails : (c : Bool) (f : Search) → AreFails searcher f.frames → AreFails searcher (if c then record f { visits = f.visits + 1 } else f).frames
+  counted_fails : (c : Bool) (f : Search) → AreFails f.frames → AreFails (if c then record f { visits = f.visits + 1 } else f).frames
   counted_fails true f h = h
   counted_fails false f h = h
 
@@ -220,17 +210,17 @@ module _ (searcher : Searcher) where
     -- on at the first of two ways, with the other kept for later
     pub tries_first : (is_memoized : Bool) (t u : plain.NfaConfig) →
         plain.step_by (searcher.text).now searcher.unicode (state_of p) s ≡ plain.Tries is_memoized t (u ∷ []) →
-        (sure : Bool) → (sure ≡ true → IsDeadEnd searcher u.at u.place) → Walks searcher sure s t
-    tries_first false t u leads sure dead f blank =
+        Walks searcher false s t
+    tries_first false t u leads f blank =
         let c = plain.is_counted (Some (state_of p)) in
         let v = plain.visited (Some (state_of p)) f in (
           1,
           (
             plain.with_frames (Other u ∷ []) v,
-            (stepped f (plain.Tries false t (u ∷ [])) leads, counted_blank c f blank, λ e h. (dead e, counted_fails c f h)),
+            (stepped f (plain.Tries false t (u ∷ [])) leads, counted_blank c f blank, λ e h. not_sure e),
           ),
         )
-    tries_first true t u leads sure dead f blank =
+    tries_first true t u leads f blank =
         let c = plain.is_counted (Some (state_of p)) in
         let v = plain.visited (Some (state_of p)) f in (
           1,
@@ -239,7 +229,7 @@ module _ (searcher : Searcher) where
             (
               stepped f (plain.Tries true t (u ∷ [])) leads ∙ cond-false (f.failed (pair_of s)) _ _ (blank (pair_of s)),
               counted_blank c f blank,
-              λ e h. (dead e, counted_fails c f h),
+              λ e h. not_sure e,
             ),
           ),
         )
@@ -356,26 +346,17 @@ module _ (searcher : Searcher) where
 
   -- ---- choices
 
-  -- on at the first of two ways, or at the second where the first one fails: that is sure then, or where the second is a dead end
-  pub chosen_at : (base : plain.NfaConfig) (at first second place : ℕ) (is_lost sure : Bool) → IsChoice searcher at first second →
-      (is_lost ≡ true → FailsFrom searcher first place) → (is_lost ≡ false → sure ≡ true → IsDeadEnd searcher second place) →
-      Walks searcher sure (config_at base at place) (config_at base (if is_lost then second else first) place)
-  chosen_at base at first second place true sure (p, (there, (false, leads))) fails dead =
-      as_sure sure (config_at base at place) (config_at base second place)
-      (tries_second p (config_at base at place) there (config_at base first place) (config_at base second place) (leads (config_at base at place)) (fails refl))
-  chosen_at base at first second place true sure (p, (there, (true, leads))) fails dead =
-      as_sure sure (config_at base at place) (config_at base second place)
-      (tries_memoized p (config_at base at place) there (config_at base first place) (config_at base second place) (leads (config_at base at place)) (fails refl))
-  chosen_at base at first second place false sure (p, (there, (is_memoized, leads))) fails dead =
-      tries_first p (config_at base at place) there is_memoized (config_at base first place) (config_at base second place)
-      (leads (config_at base at place)) sure (dead refl)
-
-  -- sure where the first way fails
+  -- on at the first of two ways, or at the second where the first one fails: that is sure then
   pub chosen_of : (base : plain.NfaConfig) (at first second place : ℕ) (is_lost : Bool) → IsChoice searcher at first second →
       (is_lost ≡ true → FailsFrom searcher first place) →
       Walks searcher is_lost (config_at base at place) (config_at base (if is_lost then second else first) place)
-  chosen_of base at first second place is_lost choice fails =
-      chosen_at base at first second place is_lost is_lost choice fails (λ lost sure. absurd (true≢false (sym sure ∙ lost)))
+  chosen_of base at first second place true (p, (there, (false, leads))) fails =
+      tries_second p (config_at base at place) there (config_at base first place) (config_at base second place) (leads (config_at base at place)) (fails refl)
+  chosen_of base at first second place true (p, (there, (true, leads))) fails =
+      tries_memoized p (config_at base at place) there (config_at base first place) (config_at base second place) (leads (config_at base at place)) (fails refl)
+  chosen_of base at first second place false (p, (there, (is_memoized, leads))) fails =
+      tries_first p (config_at base at place) there is_memoized (config_at base first place) (config_at base second place)
+      (leads (config_at base at place))
 
   pub branches_choice : (at first second : ℕ) → AreBranches searcher at first second → IsChoice searcher at first second
   branches_choice at first second h = (h.0, (h.1.0, (false, h.1.1)))
@@ -498,19 +479,18 @@ module _ (searcher : Searcher) where
         next_there searcher (nfa_state.LoopSplit first second) (at_state head) (config_at base head i) refl loop_split f
         ∙ cond-false (f.failed (pair_of (config_at base head i))) _ _ (blank (pair_of (config_at base head i)))
 
-    goes_in : (i : ℕ) (sure : Bool) → (sure ≡ true → IsDeadEnd searcher second i) → Walks searcher sure (config_at base head i) (config_at base first i)
-    goes_in i sure dead f blank = (1, (taken i f, (loop_splits i f blank, blank, λ e h. (dead e, h))))
+    goes_in : (i : ℕ) → Walks searcher false (config_at base head i) (config_at base first i)
+    goes_in i f blank = (1, (taken i f, (loop_splits i f blank, blank, λ e h. not_sure e)))
 
     -- a character that passes
-    pub iterates : (i j : ℕ) (sure : Bool) → (sure ≡ true → IsDeadEnd searcher second i) → past_char (searcher.text).now (Test test) i ≡ Some j →
-        Walks searcher sure (config_at base head i) (config_at base head j)
-    iterates i j sure dead past =
+    pub iterates : (i j : ℕ) → past_char (searcher.text).now (Test test) i ≡ Some j → Walks searcher false (config_at base head i) (config_at base head j)
+    iterates i j past =
         let took : Walks searcher true (config_at base first i) (config_at base (first + 1) j) =
         goes (nfa_state.Character test) (config_at base first i) body.0 (config_at base (first + 1) j) (ap (plain.goes_past (config_at base first i)) past) in
         let back : Walks searcher true (config_at base (first + 1) j) (config_at base head j) =
         goes (nfa_state.Jump head) (config_at base (first + 1) j) body.1 (config_at base head j) refl in
-        onward sure (config_at base head i) (config_at base (first + 1) j) (config_at base head j)
-        (onward sure (config_at base head i) (config_at base first i) (config_at base (first + 1) j) (goes_in i sure dead) took) back
+        onward false (config_at base head i) (config_at base (first + 1) j) (config_at base head j)
+        (onward false (config_at base head i) (config_at base first i) (config_at base (first + 1) j) (goes_in i) took) back
 
     -- none that passes
     pub exits : (i : ℕ) → past_char (searcher.text).now (Test test) i ≡ None → Walks searcher true (config_at base head i) (config_at base second i)
@@ -526,87 +506,28 @@ module _ (searcher : Searcher) where
           ),
         )
 
-  -- ---- a lazy loop over one test
-
-  module _ (test : CharTest) (exit : ℕ) where
-    -- over none
-    pub waits : (i : ℕ) → RunsLazily searcher test exit i i
-    waits i = λ base head body loop_split is. stays (config_at base head i)
-
-    pub waits_both : (from i j : ℕ) → RunsLazily searcher test exit from i → RunsLazily searcher test exit i j → RunsLazily searcher test exit from j
-    waits_both from i j on more = λ base head body loop_split is.
-        onward true (config_at base head from) (config_at base head i) (config_at base head j) (on base head body loop_split is)
-        (more base head body loop_split is)
-
-    -- over a character that passes, where the way out fails
-    pub waits_over : (i j : ℕ) → FailsFrom searcher exit i → past_char (searcher.text).now (Test test) i ≡ Some j → RunsLazily searcher test exit i j
-    waits_over i j fails past = λ base head body loop_split is.
-        let here = config_at base head i in
-        let into = config_at base body i in
-        let behind = config_at base (body + 1) j in
-        onward true here behind (config_at base head j)
-        (onward true here into behind
-        (tries_memoized (nfa_state.LoopSplit exit body) here loop_split (config_at base exit i) into refl fails)
-        (goes (nfa_state.Character test) into is.0 behind (ap (plain.goes_past into) past)))
-        (goes (nfa_state.Jump head) behind is.1 (config_at base head j) refl)
-
-    -- over each character up to a place
-    waits_each : (from n : ℕ) → ((i : ℕ) → from ≤ i → i < from + n → FailsFrom searcher exit i × Passes searcher test i) →
-        RunsLazily searcher test exit from (from + n)
-    waits_each from zero each = subst (RunsLazily searcher test exit from) {x = from} (omega arith) (waits from)
-    waits_each from (suc n) each =
-        let last = each (from + n) (omega arith) (omega arith) in
-        subst (RunsLazily searcher test exit from) {x = from + n + 1} (omega arith)
-        (waits_both from (from + n) (from + n + 1) (waits_each from n (λ i on below. each i on (omega (arith, below))))
-        (waits_over (from + n) (from + n + 1) last.0 last.1))
-
-    -- over characters of ASCII that pass, and that the test at the way out does not take
-    pub waits_ascii : (bytes : List ℕ) (end : CharTest) (from to : ℕ) → bytes ≡ (searcher.text).now → IsFirstTest searcher exit end →
-        AllPass (is_before (passes [] searcher.unicode (test_of end)) (passes [] searcher.unicode (test_of test))) bytes from to → from ≤ to →
-        RunsLazily searcher test exit from to
-    waits_ascii bytes end from to e first all on =
-        subst (RunsLazily searcher test exit from) {x = from + (to - from)} (omega (arith, on))
-        (waits_each from (to - from)
-        (λ i further below.
-        let h = all i further (omega (arith, on, below)) in
-        let both = and_parts (not (passes [] searcher.unicode (test_of end) (slice_index_or bytes i 0))) _ h.2 in (
-          first i (excluded_by bytes searcher end i e h.0 h.1 both.0),
-          passes_by bytes searcher test i e h.0 h.1 both.1,
-        )))
-
-  -- the way out is taken, or the way in where that one fails
-  pub lazily_chosen : (test : CharTest) (base : plain.NfaConfig) (head exit body from to : ℕ) (is_lost near : Bool) → slice_get (searcher.states).now head ≡ Some (nfa_state.LoopSplit exit body) →
-      IsBody (searcher.states).now head body test → RunsLazily searcher test exit from to → (is_lost ≡ true → FailsFrom searcher exit to) →
-      Walks searcher (is_lost && near) (config_at base head from) (config_at base (if is_lost then body else exit) to)
-  lazily_chosen test base head exit body from to is_lost near there is on fails =
-      joined true is_lost (is_lost && near) (config_at base head from) (config_at base head to) (config_at base (if is_lost then body else exit) to)
-      (λ e. (refl, (and_parts is_lost near e).0)) (on base head body there is) (chosen_of base head exit body to is_lost (loop_choice head exit body there) fails)
-
   -- over a character more
-  pub runs_further : (test : CharTest) (from i j : ℕ) → from ≤ i → RunsOn searcher test from i → past_char (searcher.text).now (Test test) i ≡ Some j →
+  pub runs_further : (test : CharTest) (from i j : ℕ) → RunsOn searcher test from i → past_char (searcher.text).now (Test test) i ≡ Some j →
       RunsOn searcher test from j
-  runs_further test from i j le on past = λ base head first second loop_split body sure dead.
-      let further = past_char_further (searcher.text).now (Test test) i j past in
-      joined sure sure sure (config_at base head from) (config_at base head i) (config_at base head j) (λ e. (e, e))
-      (on base head first second loop_split body sure (λ e k more below. dead e k more (omega (arith, below, further))))
-      (iterates base test head first second loop_split body i j sure (λ e. dead e i le further) past)
+  runs_further test from i j on past = λ base head first second loop_split body.
+      by_choice false false (config_at base head from) (config_at base head i) (config_at base head j) (on base head first second loop_split body)
+      (iterates base test head first second loop_split body i j past)
 
-  pub runs_both : (test : CharTest) (from i j : ℕ) → from ≤ i → i ≤ j → RunsOn searcher test from i → RunsOn searcher test i j → RunsOn searcher test from j
-  runs_both test from i j le further on more = λ base head first second loop_split body sure dead.
-      joined sure sure sure (config_at base head from) (config_at base head i) (config_at base head j) (λ e. (e, e))
-      (on base head first second loop_split body sure (λ e k above below. dead e k above (omega (arith, below, further))))
-      (more base head first second loop_split body sure (λ e k above below. dead e k (omega (arith, above, le)) below))
+  pub runs_both : (test : CharTest) (from i j : ℕ) → RunsOn searcher test from i → RunsOn searcher test i j → RunsOn searcher test from j
+  runs_both test from i j on more = λ base head first second loop_split body.
+      by_choice false false (config_at base head from) (config_at base head i) (config_at base head j) (on base head first second loop_split body)
+      (more base head first second loop_split body)
 
   -- over none
   pub runs_none : (test : CharTest) (i : ℕ) → RunsOn searcher test i i
-  runs_none test i = λ base head first second loop_split body sure dead. remains sure (config_at base head i)
+  runs_none test i = λ base head first second loop_split body. remains false (config_at base head i)
 
   -- over each character up to a place
   pub runs_over : (test : CharTest) (from n : ℕ) → ((i : ℕ) → from ≤ i → i < from + n → Passes searcher test i) → RunsOn searcher test from (from + n)
   runs_over test from zero each = subst (RunsOn searcher test from) {x = from} (omega arith) (runs_none test from)
   runs_over test from (suc n) each =
       subst (RunsOn searcher test from) {x = from + n + 1} (omega arith)
-      (runs_further test from (from + n) (from + n + 1) (omega arith)
+      (runs_further test from (from + n) (from + n + 1)
       (runs_over test from n (λ i on below. each i on (omega (arith, below)))) (each (from + n) (omega arith) (omega arith)))
 
   -- over characters of ASCII that pass
@@ -621,8 +542,8 @@ module _ (searcher : Searcher) where
   -- and out of the loop
   pub runs_out : (test : CharTest) (from i : ℕ) → RunsOn searcher test from i → past_char (searcher.text).now (Test test) i ≡ None →
       RunsPast searcher test from i
-  runs_out test from i on none = λ base head first second loop_split body sure dead.
-      onward sure (config_at base head from) (config_at base head i) (config_at base second i) (on base head first second loop_split body sure dead)
+  runs_out test from i on none = λ base head first second loop_split body.
+      onward false (config_at base head from) (config_at base head i) (config_at base second i) (on base head first second loop_split body)
       (exits base test head first second loop_split body i none)
 
 -- ---- what a walk to the end answers
@@ -653,11 +574,6 @@ module _ (states : Bor (List NfaState)) (text : Bor (List ℕ)) (f : Nfa) (place
   pub one_pass_answered : (r : Result OnePass AllocError) → IfOk r (EndsOnePass nfa_searcher place) → IfOk r (IsOnePass text.now f place)
   one_pass_answered (Ok r) h = one_pass_is r h
   one_pass_answered (Err e) h = tt
-
-  pub none_answered : (r : Result Bool AllocError) → IfOk r (λ none. IsTrue none → Finds nfa_searcher place None) →
-      IfOk r (λ none. IsTrue none → HasNoWayAt text.now f place)
-  none_answered (Ok none) h = λ yes. one_pass_is one_pass.Fails (h yes)
-  none_answered (Err e) h = tt
 
   -- a way that is seen so
   seen_way : (s : plain.NfaConfig) (end : ℕ) (spans : ℕ → Option Span) (o : Option Seen) → s.place ≡ end →

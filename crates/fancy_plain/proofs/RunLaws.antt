@@ -446,13 +446,6 @@ refused_by_test searcher test place b here small false excludes e =
     past_ascii (searcher.text).now (passes (searcher.text).now searcher.unicode (test_of test)) place b here small false
     (sym (passes_alike (searcher.text).now searcher.unicode (test_of test) b) ∙ sym e)
 
--- a character of ASCII that fails
-pub excluded_by : (bytes : List ℕ) (searcher : Searcher) (test : CharTest) (at : ℕ) → bytes ≡ (searcher.text).now → at < length bytes →
-    slice_index_or bytes at 0 < 128 → IsTrue (not (passes [] searcher.unicode (test_of test) (slice_index_or bytes at 0))) → Excludes searcher test at
-excluded_by bytes searcher test at e within ascii fails =
-    refused_by_test searcher test at (slice_index_or bytes at 0) (subst (λ t. slice_get t at ≡ Some (slice_index_or bytes at 0)) e (at_index bytes at 0 within))
-    ascii (passes [] searcher.unicode (test_of test) (slice_index_or bytes at 0)) fails refl
-
 -- ---- tests one by one
 
 -- past a test that passes

@@ -10,7 +10,3 @@ AllPass passes text from to =
 -- neither of the two
 abbrev pub is_other : (one other : ℕ) → ℕ → Bool
 is_other one other c = not (c == one) && not (c == other)
-
--- the one test fails and the other passes
-abbrev pub is_before : (exit test : ℕ → Bool) → ℕ → Bool
-is_before exit test c = not (exit c) && test c

@@ -9,7 +9,7 @@ use Rattle.fancy_plain.specs.declared.nfa_state.CharTest.{CharTest}
 use Rattle.fancy_plain.specs.declared.nfa_state.NfaState.TheVariants as nfa_state
 use Rattle.fancy_plain.specs.declared.search.Searcher.{Searcher}
 use Rattle.fancy_plain.specs.Runs.{Excludes, IsBody}
-use Rattle.fancy_plain.specs.OnePass.{AreDeadEnds, Loses, Succeeds, Walks, closed_by, config_at, opened_at}
+use Rattle.fancy_plain.specs.OnePass.{Loses, Succeeds, Walks, closed_by, config_at, opened_at}
 use Rattle.fancy_plain.specs.Views.{test_of}
 
 -- so many characters that the test takes stand between these places
@@ -45,13 +45,3 @@ ComesPast t at place (passed.Closes group next) = (s : NfaConfig) (opened : List
     Walks t true (config_at s at place) (closed_by s group opened next place)
 ComesPast t at place passed.Fails = (s : NfaConfig) → Loses t (config_at s at place)
 ComesPast t at place passed.Unknown = Unit {0}
-
--- where it comes past a loop, that is sure if what stands behind the loop is a dead end at each place that was passed
-abbrev pub IsSureBehind : Searcher → (at place : ℕ) → Passed → Type 0
-IsSureBehind t at place (passed.On next end is_sure) =
-    AreDeadEnds t next place end → (s : NfaConfig) → Walks t true (config_at s at place) (config_at s next end)
-IsSureBehind t at place passed.Ends = Unit {0}
-IsSureBehind t at place (passed.Opens next) = Unit {0}
-IsSureBehind t at place (passed.Closes group next) = Unit {0}
-IsSureBehind t at place passed.Fails = Unit {0}
-IsSureBehind t at place passed.Unknown = Unit {0}

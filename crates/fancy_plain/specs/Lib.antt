@@ -12,13 +12,8 @@ pub mod GroupSpans
 pub mod OnePass
 pub mod AsciiRuns
 pub mod CountedWays
-pub mod BranchLoops
 pub mod BranchTables
 pub mod FailingBranches
-pub mod KeptRuns
-pub mod KeptEnds
-pub mod FoundEnds
-pub mod OnePassCaches
 pub mod RequiredBytes
 pub mod LoopsInLoops
 pub mod LeadingLoops

@@ -43,22 +43,11 @@ closed_by s group (from ∷ opened) at place = closed_at s group from opened at 
 abbrev pub IsBlank : Search → Type 0
 IsBlank f = (p : Pair) → f.failed p ≡ false
 
--- a search that takes up this state at this place, whatever it knows, goes back after some steps and keeps no more for
--- later
-abbrev pub IsDeadEnd : Searcher → (at place : ℕ) → Type 0
-IsDeadEnd t at place =
-    (s : NfaConfig) (f : Search) → s.at ≡ at → s.place ≡ place →
-    (steps : ℕ) × ((g : Search) × ((after_steps_of t steps (TakesUp s f) ≡ TakesBack g) × (g.frames ≡ f.frames)))
-
--- so it is at each place from the one up to the other
-abbrev pub AreDeadEnds : Searcher → (at from to : ℕ) → Type 0
-AreDeadEnds t at from to = (i : ℕ) → from ≤ i → i < to → IsDeadEnd t at i
-
--- what is kept for later has no way
-abbrev pub AreFails : Searcher → List Frame → Type 0
-AreFails t [] = Unit {0}
-AreFails t (Other s ∷ frames) = IsDeadEnd t s.at s.place × AreFails t frames
-AreFails t (Fails s ∷ frames) = AreFails t frames
+-- nothing is kept for later but what is to be memoized
+abbrev pub AreFails : List Frame → Type 0
+AreFails [] = Unit {0}
+AreFails (Other s ∷ frames) = ⊥
+AreFails (Fails s ∷ frames) = AreFails frames
 
 -- this state tries these two ways, and nothing else
 abbrev pub IsChoice : Searcher → (at first second : ℕ) → Type 0
@@ -72,13 +61,13 @@ AreBranches t at first second =
     (p : NfaState) × ((slice_get (t.states).now at ≡ Some p) × ((s : NfaConfig) →
     step_by (t.text).now t.unicode (state_of p) s ≡ Tries false (goes_to first s) (goes_to second s ∷ [])))
 
--- A search that knows of no pair goes on from the one configuration to the other. Where that is sure, what it keeps for
--- later has no way.
+-- A search that knows of no pair goes on from the one configuration to the other. Where that is sure, it keeps no way for
+-- later.
 abbrev pub Walks : Searcher → (is_sure : Bool) → (from to : NfaConfig) → Type 0
 Walks t is_sure from to =
     (f : Search) → IsBlank f →
     (steps : ℕ) × ((g : Search) × ((after_steps_of t steps (TakesUp from f) ≡ TakesUp to g)
-    × IsBlank g × (is_sure ≡ true → AreFails t f.frames → AreFails t g.frames)))
+    × IsBlank g × (is_sure ≡ true → AreFails f.frames → AreFails g.frames)))
 
 -- it comes to the end, perhaps at another state
 abbrev pub Succeeds : Searcher → (from : NfaConfig) → Type 0
@@ -86,41 +75,28 @@ Succeeds t from =
     (f : Search) → IsBlank f → (at : ℕ) × ((steps : ℕ) × ((g : Search) ×
     (after_steps_of t steps (TakesUp from f) ≡ Ends (Some (config_at from at from.place)) g)))
 
--- it goes back from the configuration, and what it keeps for later has no way
+-- it goes back from the configuration, and keeps no way for later
 abbrev pub Loses : Searcher → NfaConfig → Type 0
 Loses t from =
     (f : Search) → IsBlank f →
     (steps : ℕ) × ((g : Search) × ((after_steps_of t steps (TakesUp from f) ≡ TakesBack g)
-    × (AreFails t f.frames → AreFails t g.frames)))
+    × (AreFails f.frames → AreFails g.frames)))
 
--- It goes so over a loop over this test, from its head to its head. That is sure where what stands behind the loop is a
--- dead end up to there.
+-- it goes so over a loop over this test, from its head to its head
 abbrev pub RunsOn : Searcher → CharTest → (from to : ℕ) → Type 0
 RunsOn t test from to =
     (s : NfaConfig) (head first second : ℕ) → slice_get (t.states).now head ≡ Some (nfa_state.LoopSplit first second) →
-    IsBody (t.states).now head first test → (is_sure : Bool) → (is_sure ≡ true → AreDeadEnds t second from to) →
-    Walks t is_sure (config_at s head from) (config_at s head to)
+    IsBody (t.states).now head first test → Walks t false (config_at s head from) (config_at s head to)
 
 -- and to what stands behind it
 abbrev pub RunsPast : Searcher → CharTest → (from to : ℕ) → Type 0
 RunsPast t test from to =
     (s : NfaConfig) (head first second : ℕ) → slice_get (t.states).now head ≡ Some (nfa_state.LoopSplit first second) →
-    IsBody (t.states).now head first test → (is_sure : Bool) → (is_sure ≡ true → AreDeadEnds t second from to) →
-    Walks t is_sure (config_at s head from) (config_at s second to)
-
--- from this state a search fails at each place from the one up to the other
-abbrev pub FailAtEach : Searcher → (at from to : ℕ) → Type 0
-FailAtEach t at from to = (i : ℕ) → from ≤ i → i < to → FailsFrom t at i
+    IsBody (t.states).now head first test → Walks t false (config_at s head from) (config_at s second to)
 
 -- where this test takes no character, a search from that state fails
 abbrev pub IsFirstTest : Searcher → (at : ℕ) → CharTest → Type 0
 IsFirstTest t at test = (place : ℕ) → Excludes t test place → FailsFrom t at place
-
--- it goes so over a lazy loop over this test, of which this is the way out, from its head to its head
-abbrev pub RunsLazily : Searcher → CharTest → (exit from to : ℕ) → Type 0
-RunsLazily t test exit from to =
-    (s : NfaConfig) (head body : ℕ) → slice_get (t.states).now head ≡ Some (nfa_state.LoopSplit exit body) →
-    IsBody (t.states).now head body test → Walks t true (config_at s head from) (config_at s head to)
 
 -- a search that knows of no pair ends so
 abbrev pub Finds : Searcher → (place : ℕ) → Option NfaConfig → Type 0

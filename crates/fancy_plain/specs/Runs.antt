@@ -49,10 +49,6 @@ GoesOn searcher next m here =
 abbrev pub Excludes : Searcher → CharTest → (place : ℕ) → Type 0
 Excludes t test place = past_char (t.text).now (passes (t.text).now t.unicode (test_of test)) place ≡ None
 
--- so it is at each place from the one up to the other
-abbrev pub ExcludesEach : Searcher → CharTest → (from to : ℕ) → Type 0
-ExcludesEach t test from to = (i : ℕ) → from ≤ i → i < to → Excludes t test i
-
 -- a search that takes up this state at this place goes back after some steps with one state counted, and nothing is
 -- memoized or kept
 abbrev pub FailsAtOnce : Searcher → (at place : ℕ) → Type 0

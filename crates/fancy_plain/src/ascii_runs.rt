@@ -4,7 +4,7 @@ ghost use Rattle.std.specs.Prelude.{◌≡◌, ◌≤◌, ◌+◌, ◌&&◌, ◌
 ghost use Rattle.fancy_nfa.specs.NfaSearch as plain;
 ghost use Rattle.fancy_meaning.specs.Machine.{class_test};
 ghost use Rattle.fancy_characters.specs.Classes.{class_of};
-ghost use Rattle.fancy_plain.specs.AsciiRuns.{AllPass, is_before, is_other};
+ghost use Rattle.fancy_plain.specs.AsciiRuns.{AllPass, is_other};
 ghost use Rattle.fancy_plain.specs.Views.{IsReadBy, test_of};
 
 use crate::nfa_state::CharTest;
@@ -35,58 +35,6 @@ impl CharTest {
             }
             CharTest::Class(class) => past_members(class, text, from),
         }
-    }
-
-    /// Past characters of ASCII from this place on that pass and that the test at an exit does not take, and mostly past
-    /// all of them.
-    #[inline(always)]
-    pub(crate) fn past_ascii_before(
-        &self,
-        exit: &CharTest,
-        unicode: bool,
-        text: &[u8],
-        from: usize,
-    ) -> usize
-        requires read { IsReadBy unicode self.now }
-        requires exit { IsReadBy unicode exit.now }
-        ensures pass { AllPass (is_before (plain.passes [] unicode (test_of exit.now))
-            (plain.passes [] unicode (test_of self.now))) text.now from result }
-        ensures further { from ≤ result }
-    {
-        match (self, exit) {
-            (
-                CharTest::Any {
-                    newline,
-                    crlf: false,
-                },
-                CharTest::One { c, casei: false },
-            ) => {
-                let c = *c as u32;
-                let one = if c < 128 { c as u8 } else { 128 };
-                past_others(text, from, one, if *newline { one } else { 10 })
-            }
-            _ => self.past_tested_before(exit, unicode, text, from),
-        }
-    }
-
-    /// As `past_ascii_before`, by two tests for each character.
-    #[inline(always)]
-    fn past_tested_before(&self, exit: &CharTest, unicode: bool, text: &[u8], from: usize) -> usize
-        requires read { IsReadBy unicode self.now }
-        requires exit { IsReadBy unicode exit.now }
-        ensures pass { AllPass (is_before (plain.passes [] unicode (test_of exit.now))
-            (plain.passes [] unicode (test_of self.now))) text.now from result }
-        ensures further { from ≤ result }
-    {
-        let mut place = from;
-        'run: while place < text.len()
-            && text[place] < 128
-            && !exit.takes_ascii(unicode, text[place])
-            && self.takes_ascii(unicode, text[place])
-        {
-            place += 1;
-        }
-        place
     }
 
     /// As `past_ascii`, by one test for each character.

@@ -5,7 +5,7 @@ ghost use Rattle.fancy_meaning.specs.Numbers.{usize_max};
 ghost use Rattle.fancy_plain.specs.declared.nfa_state.CharTest.{CharTest};
 ghost use Rattle.fancy_plain.specs.declared.search.Searcher as searcher_view;
 ghost use Rattle.fancy_plain.specs.declared.nfa_state.NfaState.TheVariants as nfa_state;
-ghost use Rattle.fancy_plain.specs.CountedWays.{BeginsLoop, ComesPast, IsSureBehind, PassesMost, PassesSome};
+ghost use Rattle.fancy_plain.specs.CountedWays.{BeginsLoop, ComesPast, PassesMost, PassesSome};
 ghost use Rattle.fancy_plain.specs.Runs.{IsBody};
 ghost use Rattle.fancy_plain.specs.Searches.{IsSearcher};
 ghost use Rattle.fancy_plain.specs.Views.{IsReadBy};
@@ -65,8 +65,7 @@ impl Searcher<'_> {
     ) -> Result<Passed, AllocError>
         requires searcher { IsSearcher self.now }
         requires at { slice_get self.now.states.now enter ≡ Some nfa_state.CounterBegin }
-        ensures comes { IfOk result (ComesPast self.now enter place) }
-        ensures sure { IfOk result (IsSureBehind self.now enter place) }
+        ensures { IfOk result (ComesPast self.now enter place) }
     {
         let searcher = Searcher { ..*self };
         searcher.past_counter_begin(alloc, enter, place)
@@ -82,8 +81,7 @@ impl Searcher<'_> {
     ) -> Result<Passed, AllocError>
         requires searcher { IsSearcher self.now }
         requires at { slice_get self.now.states.now enter ≡ Some nfa_state.CounterBegin }
-        ensures comes { IfOk result (ComesPast self.now enter place) }
-        ensures sure { IfOk result (IsSureBehind self.now enter place) }
+        ensures { IfOk result (ComesPast self.now enter place) }
     {
         let head = enter + 1;
         let Some(NfaState::CounterLoop { bounds, after }) = self.states.get(head) else {
@@ -98,7 +96,7 @@ impl Searcher<'_> {
 
     /// Past at most so many characters from this place on that pass the test, and how many less these were.
     #[inline(always)]
-    pub(crate) fn past_at_most(
+    fn past_at_most(
         &self,
         alloc: Global,
         test: &CharTest,
@@ -163,16 +161,12 @@ impl Searcher<'_> {
 
 /// Behind a loop with these bounds, where its iterations end there and are so many less than they may be.
 #[inline(always)]
-pub(crate) fn behind_counter(bounds: Loop, after: usize, end: usize, left: usize) -> Passed
+fn behind_counter(bounds: Loop, after: usize, end: usize, left: usize) -> Passed
     requires { left ≤ bounds.hi }
-    ensures comes { (searcher : searcher_view.Searcher) (enter place : ℕ) (test : CharTest)
+    ensures { (searcher : searcher_view.Searcher) (enter place : ℕ) (test : CharTest)
         → BeginsLoop searcher enter bounds after test
         → PassesMost searcher test bounds.hi place end left
         → length searcher.text.now < usize_max → ComesPast searcher enter place result }
-    ensures sure { (searcher : searcher_view.Searcher) (enter place : ℕ) (test : CharTest)
-        → BeginsLoop searcher enter bounds after test
-        → PassesMost searcher test bounds.hi place end left
-        → length searcher.text.now < usize_max → IsSureBehind searcher enter place result }
 {
     let count = bounds.hi - left;
     if left > 0 && count < bounds.lo {

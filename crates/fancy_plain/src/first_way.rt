@@ -6,7 +6,6 @@ ghost use Rattle.fancy_nfa.specs.FirstWays.{spans_of};
 ghost use Rattle.fancy_nfa.specs.NfaSearch.{Pair};
 ghost use Rattle.fancy_backtrack.specs.Paths.{closed_after};
 ghost use Rattle.fancy_backtrack.specs.Memos.{HaveFailed};
-ghost use Rattle.fancy_plain.specs.FoundEnds.{ChoicesLead};
 ghost use Rattle.fancy_plain.specs.Searches.{IsMemory};
 ghost use Rattle.fancy_plain.specs.Ways.{listed, Ascends, CountsVisits, HasAscending, IsFirstWay, IsMemoOf, IsOfNodes};
 
@@ -66,7 +65,6 @@ pub fn first_way_with(
     ensures visits { IfOk result (λ answer. (failed : Pair → Bool) → HaveFailed memo.old failed
         → CountsVisits text.now nfa.now failed ix answer) }
     ensures memo { IsMemoOf text.now nfa.now memo.new }
-    ensures choices { IfOk result (ChoicesLead text.now nfa.now memo.new) }
     ensures within { IfOk result (λ answer. answer.visits ≤ memo.old.budget.visits) }
     ensures budget { memo.new.budget ≡ memo.old.budget }
     ensures refused { IfErr result IsMemory }

@@ -12,7 +12,6 @@ ghost use Rattle.fancy_plain.specs.Ways.{IsOfNodes};
 
 use crate::nfa::Nfa;
 use crate::nfa_state::{CharTest, NfaState};
-use crate::search::Searcher;
 
 /// A greedy loop over one character, which takes as many as there are.
 #[derive(Clone, Copy)]
@@ -64,14 +63,6 @@ impl Nfa {
             return false;
         };
         matches!(self.states.get(*exit), Some(NfaState::Match))
-    }
-}
-
-impl Searcher<'_> {
-    /// A one-pass match that knows nothing is followed by a walk that may be sure that there is none: the starts in what it
-    /// passed in vain are passed over then, or lie apart.
-    pub(crate) fn is_walked_twice(&self, leading_run: Option<usize>) -> bool {
-        leading_run.is_some() || self.starts_lie_apart()
     }
 }
 

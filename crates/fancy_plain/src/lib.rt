@@ -2,24 +2,17 @@
 #![tactic(auto)]
 
 mod ascii_runs;
-mod branch_loops;
 mod branch_tables;
 mod counted_ways;
-mod dead_ends;
 mod failing_branches;
 mod first_sets;
 pub mod first_way;
-mod found_ends;
 pub mod group_spans;
-mod kept_ends;
-mod kept_runs;
 mod layout;
-mod lazy_loops;
 pub mod leading_runs;
 pub mod nfa;
 mod nfa_state;
 pub mod one_pass;
-pub mod one_pass_cache;
 pub mod required_bytes;
 mod runs;
 mod search;

@@ -19,7 +19,6 @@ ghost use Rattle.std.proofs.Props.{props};
 
 use crate::branch_tables::BranchTables;
 use crate::first_sets::{first_sets, may_begin};
-use crate::kept_runs::LONG;
 use crate::layout::{Layout, room_for};
 use crate::leading_runs::leading_run;
 use crate::nfa_state::NfaState;
@@ -39,14 +38,10 @@ pub struct Nfa {
     pub(crate) pair_bits: PairBits,
     /// The ASCII characters that can stand at a way's first places, level by level, beside any others.
     pub(crate) first_sets: Vec<[bool; 128]>,
-    /// Whether ways seem to need no choice, set no group, and do not count long.
+    /// Whether ways seem to need no choice, and set no group.
     pub(crate) is_one_pass: bool,
-    /// Whether ways seem to need no choice, and have to take a long run over one character.
-    pub(crate) counts_long: bool,
     /// Where ways seem to need no choice and set groups, the first of these.
     pub(crate) one_pass_group: Option<usize>,
-    /// Whether a one-pass match that knows nothing is followed by a walk that may be sure that there is none.
-    pub(crate) is_walked_twice: bool,
     /// Bytes of which every way takes one, if some are known.
     pub(crate) required_bytes: Option<[bool; 256]>,
     /// That byte, where it is one alone.
@@ -71,9 +66,7 @@ impl Drop for Nfa {
             pair_bits: _,
             first_sets: _,
             is_one_pass: _,
-            counts_long: _,
             one_pass_group: _,
-            is_walked_twice: _,
             required_bytes: _,
             required_byte: _,
             branches: _,
@@ -144,19 +137,14 @@ impl Nfa {
             text: "",
         };
         let seems_one_pass = searcher.seems_one_pass();
-        let is_walked_twice = searcher.is_walked_twice(leading_run);
         let group = first_group(&states);
-        let is_plain = seems_one_pass && group.is_none();
-        let has_long_count = has_long_count(&states);
         Ok(Nfa {
             states,
             unicode,
             pair_bits,
             first_sets,
-            is_one_pass: is_plain && !has_long_count,
-            counts_long: seems_one_pass && has_long_count,
+            is_one_pass: seems_one_pass && group.is_none(),
             one_pass_group: if seems_one_pass { group } else { None },
-            is_walked_twice,
             required_bytes,
             required_byte,
             branches,
@@ -214,19 +202,11 @@ impl Nfa {
         self.states.len()
     }
 
-    /// Ways seem to need no choice, set no group, and do not count long.
+    /// Ways seem to need no choice, and set no group.
     pub fn is_one_pass(&self) -> bool
         ensures { result ≡ self.now.is_one_pass }
     {
         self.is_one_pass
-    }
-
-    /// Ways seem to need no choice, and have to take a long run over one character. A match may fail far from where it
-    /// begins, so it is asked for by long runs that are kept.
-    pub fn counts_long(&self) -> bool
-        ensures { result ≡ self.now.counts_long }
-    {
-        self.counts_long
     }
 
     /// Whether no way can begin where this byte stands.
@@ -276,18 +256,6 @@ fn first_group(states: &[NfaState]) -> Option<usize> {
         }
     }
     first
-}
-
-/// A loop among these states takes a long run at least.
-fn has_long_count(states: &[NfaState]) -> bool {
-    'states: for nfa_state in states {
-        if let NfaState::CounterLoop { bounds, .. } = nfa_state {
-            if bounds.lo >= LONG {
-                return true;
-            }
-        }
-    }
-    false
 }
 
 /// What the loops among these states ask for.

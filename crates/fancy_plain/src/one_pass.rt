@@ -58,7 +58,7 @@ impl Nfa {
             unicode: self.unicode,
             text,
         };
-        searcher.walk_surely(alloc, ix, self.is_walked_twice, read)
+        searcher.walk(alloc, ix, read)
     }
 
     /// As `one_pass_end`, also of nodes with groups: the spans of the groups that the way sets are written over these.
@@ -88,7 +88,7 @@ impl Nfa {
             unicode: self.unicode,
             text,
         };
-        searcher.walk_groups_surely(alloc, ix, groups, self.is_walked_twice, read)
+        searcher.walk_groups(alloc, ix, groups, read)
     }
 }
 
@@ -100,11 +100,9 @@ impl Searcher<'_> {
     {
         'states: for at in 0..self.states.len() {
             let is_one_pass = match self.states.get(at) {
-                Some(NfaState::LoopSplit(first, second)) => {
+                Some(NfaState::LoopSplit(first, second) | NfaState::Split(first, second)) => {
                     self.are_apart(*first, *second)
-                        || self.is_seldom_taken_back(at, *first, *second)
                 }
-                Some(NfaState::Split(first, second)) => self.are_apart(*first, *second),
                 Some(NfaState::CounterLoop { bounds, after }) => self.is_alone(at, *bounds, *after),
                 _ => true,
             };
@@ -122,34 +120,6 @@ impl Searcher<'_> {
     {
         self.counted_test(head, bounds).is_some()
             && (bounds.lo == bounds.hi || self.are_apart(head + 1, self.behind_joins(after)))
-    }
-
-    /// The loop with this head is lazy and over one character, and a way seldom fails behind its exit's first test: the
-    /// end comes next, or the test takes no letter, digit or space.
-    fn is_seldom_taken_back(&self, head: usize, first: usize, second: usize) -> bool
-        requires { IsSearcher self.now }
-    {
-        if self.body_at(second, head).is_none() {
-            return false;
-        }
-        let exit = self.behind_groups(self.behind_jump(first));
-        match self.states.get(exit) {
-            Some(NfaState::Character(test)) => {
-                self.ends_behind(exit) || !takes_common(test, self.unicode)
-            }
-            _ => false,
-        }
-    }
-
-    /// The end comes behind this state, perhaps where groups begin or end.
-    fn ends_behind(&self, at: usize) -> bool {
-        let Some(next) = at.checked_add(1) else {
-            return false;
-        };
-        matches!(
-            self.states.get(self.behind_groups(next)),
-            Some(NfaState::Match)
-        )
     }
 
     /// Behind the ends and the heads of loops and the ends of groups from this state on, on into the last loop or group.
@@ -243,12 +213,7 @@ impl Searcher<'_> {
 
     /// From state to state, where there is no group.
     #[inline(always)]
-    pub(crate) fn walk(
-        &self,
-        alloc: Global,
-        ix: usize,
-        read: &mut usize,
-    ) -> Result<OnePass, AllocError>
+    fn walk(&self, alloc: Global, ix: usize, read: &mut usize) -> Result<OnePass, AllocError>
         requires { IsSearcher self.now }
         ensures { IfOk result (EndsOnePass self.now ix) }
     {
@@ -282,7 +247,7 @@ impl Searcher<'_> {
     }
 
     /// From state to state, with the spans of groups.
-    pub(crate) fn walk_groups(
+    fn walk_groups(
         &self,
         alloc: Global,
         ix: usize,
@@ -336,7 +301,7 @@ impl Searcher<'_> {
 
     /// Past this state, perhaps behind a jump, or past a loop over one character.
     #[inline(always)]
-    pub(crate) fn past(&self, alloc: Global, at: usize, place: usize) -> Result<Passed, AllocError>
+    fn past(&self, alloc: Global, at: usize, place: usize) -> Result<Passed, AllocError>
         requires { IsSearcher self.now }
         ensures { IfOk result (ComesPast self.now at place) }
     {
@@ -346,12 +311,7 @@ impl Searcher<'_> {
     /// Past this state, or past a loop over one character. What is tried first is left only where it fails at its first
     /// test.
     #[inline(always)]
-    pub(crate) fn past_state(
-        &self,
-        alloc: Global,
-        at: usize,
-        place: usize,
-    ) -> Result<Passed, AllocError>
+    fn past_state(&self, alloc: Global, at: usize, place: usize) -> Result<Passed, AllocError>
         requires { IsSearcher self.now }
         ensures { IfOk result (ComesPast self.now at place) }
     {
@@ -382,18 +342,6 @@ impl Searcher<'_> {
                     let end = self.past_all(alloc, test, place)?;
                     return Ok(Passed::On {
                         at: *second,
-                        place: end,
-                        is_sure: false,
-                    });
-                }
-                // the body of a lazy loop stands before its exit
-                if second < first && self.body_at(*second, at).is_some() {
-                    return self.past_lazy(alloc, at, place);
-                }
-                let end = self.past_branches(at, *first, place);
-                if end > place {
-                    return Ok(Passed::On {
-                        at,
                         place: end,
                         is_sure: false,
                     });
@@ -555,12 +503,7 @@ impl Searcher<'_> {
 
     /// Past the characters from this place on that pass the test.
     #[inline(always)]
-    pub(crate) fn past_all(
-        &self,
-        alloc: Global,
-        test: &CharTest,
-        from: usize,
-    ) -> Result<usize, AllocError>
+    fn past_all(&self, alloc: Global, test: &CharTest, from: usize) -> Result<usize, AllocError>
         requires { IsReadBy self.now.unicode test.now }
         ensures { IfOk result (RunsPast self.now test.now from) }
     {
@@ -593,7 +536,7 @@ fn add_read(read: &mut usize, states: usize, from: usize, to: usize)
 }
 
 /// What a test that fails says, where no loop was passed before, or else where one was.
-pub(crate) fn without_a_way(is_sure: bool) -> OnePass
+fn without_a_way(is_sure: bool) -> OnePass
     ensures bare { (searcher : searcher_view.Searcher) (place : ℕ) → (IsTrue is_sure
         → Finds searcher place None)
         → EndsOnePass searcher place result }
@@ -610,28 +553,15 @@ pub(crate) fn without_a_way(is_sure: bool) -> OnePass
 
 /// The way on, where the first one is lost or not.
 #[inline(always)]
-pub(crate) fn chosen(is_lost: bool, first: usize, second: usize) -> usize
+fn chosen(is_lost: bool, first: usize, second: usize) -> usize
     ensures { result ≡ if is_lost then second else first }
 {
     if is_lost { second } else { first }
 }
 
 #[inline(always)]
-pub(crate) fn are_both(one: bool, other: bool) -> bool
+fn are_both(one: bool, other: bool) -> bool
     ensures { result ≡ (one && other) }
 {
     one && other
-}
-
-/// A letter, a digit or a space passes the test.
-fn takes_common(test: &CharTest, unicode: bool) -> bool
-    requires { IsReadBy unicode test.now }
-{
-    'ask: for c in 0..128u8 {
-        let is_common = matches!(c, b'a'..=b'z' | b'A'..=b'Z' | b'0'..=b'9' | b' ');
-        if is_common && test.takes_ascii(unicode, c) {
-            return true;
-        }
-    }
-    false
 }

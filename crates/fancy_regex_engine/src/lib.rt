@@ -4,5 +4,5 @@
 pub use fancy_command::{arguments, command};
 pub use fancy_compile::compile;
 pub use fancy_machine::{plain, vm};
-pub use fancy_search::search;
+pub use fancy_search::{scratch, search};
 pub use fancy_tree::{analyze, classes, error, expr, look};

@@ -1,4 +1,4 @@
-//! What is done with all matches of a text: it is split at them, or they are replaced.
+//! Splits a text at its matches, or replaces them.
 #![tactic(auto)]
 
 mod cuts;

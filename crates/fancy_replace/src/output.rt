@@ -5,12 +5,16 @@ ghost use Rattle.fancy_meaning.specs.Numbers.{usize_max};
 
 use std::alloc::{AllocError, Global};
 
-/// What a text is written to, piece by piece.
+/// What a text is written to, piece by piece: a `String`, or a [`BoundedText`].
 pub trait Output {
     // With room for so many bytes it has this text: what was written, as far as there is room.
     ghost holds: { Self → ℕ → List ℕ → Type 0 };
 
-    /// Appends a piece. The error is `AllocError`, and after it a part of the piece may be there.
+    /// Appends a piece.
+    ///
+    /// # Errors
+    ///
+    /// `AllocError` if an allocation fails. A part of the piece may then be there.
     fn append(&mut self, piece: &str) -> Result<(), AllocError>
         ensures { OnOk result ((room : ℕ) (text : List ℕ)
             → holds self.old room text
@@ -26,12 +30,12 @@ impl Output for String {
     }
 }
 
-/// A text of which no more bytes are kept than there is room for, with the length of all of it.
+/// The first bytes of a text, as far as there is room, with the length of the whole text.
 #[derive(Drop)]
 pub struct BoundedText {
     kept: Vec<u8>,
     room: usize,
-    /// How many bytes the whole text has; the greatest number where it has more than that.
+    /// How many bytes the whole text has, or `usize::MAX` if it has more.
     count: usize,
     ghost below: { room < usize_max },
     ghost cut: { length kept.items ≡ min room count },
@@ -41,7 +45,7 @@ pub struct BoundedText {
 impl BoundedText {
     ghost use Rattle.fancy_replace.specs.Outputs.{Holds, count_of, kept_of, room_of};
 
-    /// An empty text with room for this many bytes.
+    /// An empty text with room for this many bytes; `usize::MAX` counts as one less. It allocates nothing.
     pub fn new(alloc: Global, room: usize) -> BoundedText
         ensures { Holds result room [] }
     {
@@ -52,21 +56,21 @@ impl BoundedText {
         }
     }
 
-    /// What is kept: the first bytes of the text, as far as there is room.
+    /// The bytes that are kept: the first ones of the text, as many as there is room for. A character may be cut.
     pub fn kept(&self) -> &[u8]
         ensures { result.now ≡ kept_of self.now }
     {
         &self.kept
     }
 
-    /// How many bytes the whole text has; the greatest number where it has more than that.
+    /// How many bytes the whole text has, kept or not, or `usize::MAX` if it has more.
     pub fn count(&self) -> usize
         ensures { result ≡ count_of self.now }
     {
         self.count
     }
 
-    /// The text, and none where it has more bytes than there is room for.
+    /// The whole text, or `None` if it has more bytes than there is room for.
     pub fn into_text(self) -> Option<String>
         ensures text { IfSome
             result

@@ -15,7 +15,8 @@ use std::alloc::AllocError;
 pub enum Part<'a> {
     /// This text.
     Text(&'a str),
-    /// What the group with this number took; nothing if it is not there or not set. Group 0 is the match.
+    /// What the group with this number matched. It is empty if there is no such group or if it is not set. Group 0 is
+    /// the match.
     Group(usize),
 }
 
@@ -36,7 +37,7 @@ impl<'a> Part<'a> {
     }
 }
 
-/// What a group took; nothing if it is not there or not set.
+/// What a group matched, empty if it is not there or not set.
 fn group_text<'t>(captures: &Captures<'t>, group: usize) -> &'t str
     ensures { result.now ≡ parts.group_text (captures_text captures.now) (numbers_in captures.now) group }
 {
@@ -47,6 +48,12 @@ fn group_text<'t>(captures: &Captures<'t>, group: usize) -> &'t str
 }
 
 /// A replacement by these parts, one after the other.
+///
+/// # Examples
+///
+/// ```
+/// let swapped = Parts(&[Part::Group(2), Part::Text(", "), Part::Group(1)]);
+/// ```
 #[derive(Clone, Copy, Debug)]
 pub struct Parts<'a>(pub &'a [Part<'a>]);
 

@@ -8,7 +8,7 @@ use crate::cuts::Cuts;
 use fancy_expr::error::Error;
 use fancy_matches::regexes::Regex;
 
-/// What is left of a text that is split, whatever regex it is split by.
+/// What is left of a text that is split. The regex is handed to each call of `next`, and so is not borrowed meanwhile.
 #[derive(Drop)]
 pub struct Pieces<'t> {
     pub(crate) cuts: Cuts<'t>,
@@ -18,7 +18,7 @@ pub struct Pieces<'t> {
 impl<'t> Pieces<'t> {
     ghost use Rattle.fancy_replace.specs.Splits.{CanGoOn, GivesPiece, HasPieces, MostPiecesJoin, PiecesAndMatchesJoin, all_pieces, most_pieces, pieces_remaining};
 
-    /// All pieces of the text.
+    /// All pieces of the text: one more than it has matches.
     pub fn all(text: &'t str) -> Pieces<'t>
         ensures pieces { (r : compiled_regex.Regex)
             → HasPieces r text.now (all_pieces text.now) result }
@@ -30,7 +30,8 @@ impl<'t> Pieces<'t> {
         }
     }
 
-    /// At most `limit` pieces of the text, of which the last is the rest of the text with all its matches.
+    /// At most `limit` pieces of the text. The last of them is the rest of the text, with the matches in it. There are
+    /// none if `limit` is 0.
     pub fn at_most(text: &'t str, limit: usize) -> Pieces<'t>
         ensures pieces { (r : compiled_regex.Regex)
             → HasPieces r text.now (most_pieces text.now limit) result }
@@ -42,7 +43,12 @@ impl<'t> Pieces<'t> {
         }
     }
 
-    /// The next piece, by the regex that the text is split by. After an error there are no more.
+    /// The next piece, or `None` after the last. Each call gets the regex that the first one got; the caller proves
+    /// this.
+    ///
+    /// # Errors
+    ///
+    /// Those of a search, as an item; see `Regex` of fancy_matches. It is the last item.
     pub fn next(&mut self, regex: &mut Regex) -> Option<Result<&'t str, Error>>
         requires { CanGoOn regex.old self.old }
         ensures gives { GivesPiece (λ piece. piece.now) regex.old self.old result regex.new self.new }
@@ -68,10 +74,12 @@ impl<'t> Pieces<'t> {
     }
 }
 
-/// The pieces of a text between its matches, from left to right: one more than there are matches. The regex is the
-/// caller's again once the iterator is gone.
+/// The pieces of a text between its matches, from left to right; [`split`](crate::split::split) and `splitn` make it.
+/// It borrows the regex.
 ///
-/// A limit or a refusal of memory is an item, and after it there are no more.
+/// # Errors
+///
+/// Those of a search, as an item; see `Regex` of fancy_matches. It is the last item.
 #[derive(Drop)]
 pub struct Split<'r, 't> {
     pub(crate) regex: &'r mut Regex,

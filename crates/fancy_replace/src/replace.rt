@@ -1,4 +1,4 @@
-//! Matches are replaced.
+//! Replaces matches.
 
 ghost use Rattle.std.specs.Prelude.{◌≡◌, ◌++◌, OnOk, Some, None};
 ghost use Rattle.fancy_matches.specs.Regexes.{captures_text, numbers_in};
@@ -14,7 +14,11 @@ use fancy_matches::regexes::Regex;
 use std::alloc::{AllocError, Global};
 use std::borrow::CowStr;
 
-/// The text with its first match replaced, and the text itself where there is none.
+/// Returns the text with its first match replaced, or the text itself if it has no match.
+///
+/// # Errors
+///
+/// Those of a search; see `Regex` of fancy_matches. `Memory` also if the new text cannot be allocated.
 pub fn replace<'t, R: Replacer>(
     alloc: Global,
     regex: &mut Regex,
@@ -27,7 +31,18 @@ pub fn replace<'t, R: Replacer>(
     replacen(alloc, regex, text, 1, replacement)
 }
 
-/// The text with all its matches replaced, and the text itself where there is none.
+/// Returns the text with all its matches replaced, or the text itself if it has no match. The matches are those of
+/// `find_iter`.
+///
+/// # Errors
+///
+/// Those of [`replace`].
+///
+/// # Examples
+///
+/// ```
+/// let text = replace_all(alloc, &mut comma, "a, b,c", &NoExpand("; "))?; // "a; b; c", of the regex `, *`
+/// ```
 pub fn replace_all<'t, R: Replacer>(
     alloc: Global,
     regex: &mut Regex,
@@ -40,10 +55,12 @@ pub fn replace_all<'t, R: Replacer>(
     replacen(alloc, regex, text, 0, replacement)
 }
 
-/// The text with its first `limit` matches replaced, all of them where that is 0, and the text itself where there is
-/// none.
+/// Returns the text with its first `limit` matches replaced, or all of them if `limit` is 0. It is the text itself if
+/// it has no match.
 ///
-/// A limit that a search exceeds is returned by its name. Out of memory is `Error::Memory`.
+/// # Errors
+///
+/// Those of [`replace`].
 pub fn replacen<'t, R: Replacer>(
     alloc: Global,
     regex: &mut Regex,
@@ -62,10 +79,12 @@ pub fn replacen<'t, R: Replacer>(
     Ok(CowStr::Owned(out))
 }
 
-/// Appends the text with its first `limit` matches replaced, all of them where that is 0. False is answered, and nothing
-/// is appended, where there is none.
+/// Appends the text to `out`, with its first `limit` matches replaced, or all of them if `limit` is 0. If there is no
+/// match it returns false and appends nothing.
 ///
-/// Errors are those of `replacen`. After one a part of the text may be there.
+/// # Errors
+///
+/// Those of [`replace`]. A part of the text may then have been appended.
 pub fn replace_into<R: Replacer, O: Output>(
     regex: &mut Regex,
     text: &str,

@@ -1,4 +1,4 @@
-//! What is written in the place of a match.
+//! What replaces a match.
 
 ghost use Rattle.std.specs.Prelude.{ℕ, List, OnOk};
 ghost use Rattle.fancy_replace.specs.Outputs.{Grows};
@@ -7,14 +7,18 @@ use crate::output::Output;
 use fancy_matches::found::Captures;
 use std::alloc::AllocError;
 
-/// What is written in the place of a match.
+/// What replaces a match: a text ([`NoExpand`]), `Parts`, or a `Template`.
 pub trait Replacer {
     ghost use Rattle.fancy_matches.specs.Regexes.{captures_text, numbers_in};
 
     // What it writes, by the text and the start and end of each group of the match.
     ghost replacement_text: { Self → List ℕ → List ℕ → List ℕ };
 
-    /// Appends what replaces a match with these groups. After an error a part of it may be there.
+    /// Appends to `out` what replaces a match with these groups.
+    ///
+    /// # Errors
+    ///
+    /// `AllocError` if an allocation fails. A part of the replacement may then be there.
     fn replace_append<O: Output>(
         &self,
         captures: &Captures<'_>,
@@ -26,7 +30,7 @@ pub trait Replacer {
             out.new) };
 }
 
-/// A text as it stands: a `$` in it means nothing.
+/// A text that is written as it is: a `$` in it has no meaning.
 #[derive(Clone, Copy, Debug)]
 pub struct NoExpand<'a>(pub &'a str);
 

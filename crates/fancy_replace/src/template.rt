@@ -1,4 +1,4 @@
-//! Replacements that are written as a text with references to groups.
+//! Replacements that are read from a text with references to groups.
 
 ghost use Rattle.std.specs.Prelude.{◌≡◌, IfOk, IsTrue, OnOk, map};
 ghost use Rattle.std.specs.Char.{is_ascii_digit};
@@ -17,16 +17,16 @@ use fancy_matches::found::Captures;
 use std::alloc::{AllocError, Global};
 use std::collections::BTreeMap;
 
-/// A replacement that was read from a text with references to groups, as the crate `regex` has them:
+/// A replacement that is read from a text with references to groups. The syntax is that of the crate `regex`:
 ///
 /// - `$$` writes a dollar.
-/// - `$1` and `$name` write what a group took; they end with the longest run of `[0-9A-Za-z_]`.
-/// - `${1}` and `${name}` do too, and what names the group is all that stands before the first `}`.
-/// - Any other `$` writes a dollar, also that of `${` where no `}` follows.
+/// - `$1` and `$name` write what a group matched; the name is the longest run of `[0-9A-Za-z_]`.
+/// - `${1}` and `${name}` do too; the name is all that is before the first `}`.
+/// - Any other `$` writes a dollar, also that of `${` if no `}` follows.
 ///
-/// Digits alone are the number of a group, and 0 is the match; all else is a name, also `+1`, which `regex` reads as a
-/// number. Of several groups with one name the first that is set in the match is meant. A group that is not there, or
-/// not set, writes nothing.
+/// Digits alone are the number of a group, and 0 is the match. All else is a name, also `+1`, which `regex` reads as a
+/// number. If several groups have the name, the first that is set is meant. A group that is not there, or not set,
+/// writes nothing.
 #[derive(Debug)]
 pub struct Template {
     segments: Vec<Segment>,
@@ -43,11 +43,20 @@ impl Template {
     ghost use Rattle.fancy_replace.specs.Reading.{HasNoDollar, expansion};
     ghost use Rattle.fancy_replace.specs.Templates.{template_text};
 
-    /// Reads a text. Each name comes with the numbers of its groups, in the order in which they are tried, as in
-    /// `named_groups` of an `ExprTree`. They are looked up here, so the template serves matches of that tree alone.
+    /// Reads a text. `names` has the numbers of the groups of each name, in the order in which they are tried, as
+    /// `named_groups` of an `ExprTree` has them. They are looked up here, so the template serves matches of that tree
+    /// alone. The time is linear in the length of the text, but for the look-up of each name.
     ///
-    /// Every text is a template, so the only error is `AllocError`. The time is linear in the length of the text,
-    /// but for the look-up of each name.
+    /// # Errors
+    ///
+    /// `AllocError` if an allocation fails; there is no other, since every text is a template.
+    ///
+    /// # Examples
+    ///
+    /// ```
+    /// let template = Template::new(alloc, "${year}-$2", &tree.named_groups)?;
+    /// let text = replace_all(alloc, &mut regex, "11/2026", &template)?;
+    /// ```
     pub fn new(
         alloc: Global,
         text: &str,
@@ -86,7 +95,7 @@ impl Replacer for Template {
 pub(crate) enum Segment {
     /// This text.
     Literal(String),
-    /// What the first of these groups took that is set; nothing if none is.
+    /// What the first of these groups matched that is set; nothing if none is.
     Groups(Vec<usize>),
 }
 
@@ -140,7 +149,7 @@ fn segments(
     Ok(segments)
 }
 
-/// What the first of these groups took that is set; nothing if none is.
+/// What the first of these groups matched that is set; nothing if none is.
 fn first_group_text<'t>(groups: &[usize], captures: &Captures<'t>) -> &'t str
     ensures { result.now ≡ templates.first_group_text (captures_text captures.now)
         (numbers_in captures.now) groups.now }
@@ -184,7 +193,7 @@ fn has_digits_alone(name: &str) -> bool
     name.bytes().all(|byte| byte.is_ascii_digit())
 }
 
-/// The group with the number that these digits write; none, where it does not fit.
+/// The group with the number that these digits write, or none if the number is too large.
 fn group_numbered(alloc: Global, digits: &str) -> Result<Vec<usize>, AllocError>
     requires { IsTrue (reading.is_numeral digits.now) }
     ensures { IfOk result (λ groups. groups.items

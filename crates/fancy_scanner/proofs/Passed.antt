@@ -3,7 +3,7 @@ use Rattle.std.proofs.Common.{◌≡◌, ◌≢◌, ℕ, zero, suc, ◌-◌, ◌
 use Rattle.std.specs.Prelude.{option_and_then, slice_get}
 use Rattle.std.proofs.lemmas.Bool.Decides.{eqb_tells}
 use Rattle.std.proofs.lemmas.Option.{none-some}
-use Rattle.fancy_vm.specs.Scratches.{cost_of}
+use Rattle.fancy_search.specs.Scratches.{cost_of}
 use Rattle.fancy_steps.specs.SearchLimits.{passed_by}
 use Rattle.fancy_steps.specs.declared.search_limits.SearchLimit.{SearchLimit}
 use Rattle.fancy_steps.specs.declared.search_limits.SearchLimits.{SearchLimits}

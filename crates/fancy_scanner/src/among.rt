@@ -15,12 +15,15 @@ use fancy_expr::error::Error;
 use std::alloc::AllocError;
 
 impl<'t> ScanText<'_, 't> {
-    /// The match that begins first, of the first matches of the trees with these numbers from this place on, a byte of the
-    /// text; of several that begin there that of the number that stands first in `order`. The result has the index in
-    /// `order`, so `captures(order[index])` has the groups. A number that no tree has is passed over.
+    /// Does what `find_from` does for some of the trees: `order` has their indices. If several matches start first, it
+    /// is the match of the tree that is first in `order`. An index that no tree has is left out.
     ///
-    /// A tree whose search exceeds a limit does not hide the matches of the others: the first such one is reported beside
-    /// them. Out of memory is `Error::Memory`.
+    /// The indices in the result are positions in `order`, so `captures(order[index])` has the groups. `pos` is in
+    /// bytes: the start of a character of the text, or the length of the text. The caller proves this.
+    ///
+    /// # Errors
+    ///
+    /// `Memory` if an allocation fails; there is no other. A limit is no error here: `stopped` reports it.
     pub fn find_among(&mut self, order: &[usize], pos: usize) -> Result<ScanStep<'t>, Error>
         requires { IsTrue (places.is_place (text_of self.old) pos) }
         ensures promise { (rules picked : List Rule)
@@ -72,7 +75,11 @@ impl<'t> ScanText<'_, 't> {
         Ok(ScanStep { found, stopped })
     }
 
-    /// One more tree, after the others; what was found of the others is kept. The only error is out of memory.
+    /// Adds a compiled tree after the others, while the scan goes on. What was found of the others is kept.
+    ///
+    /// # Errors
+    ///
+    /// `AllocError` if an allocation fails. The scanner then has the trees that it had.
     pub fn push(&mut self, tree: ScanTree) -> Result<(), AllocError>
         ensures ok { OnOk result ((rules : List Rule) (r : Rule)
             → IsScanOf rules self.old → IsTreeOf r (text_of self.old) tree

@@ -9,7 +9,8 @@ use crate::answers::Answer;
 use fancy_matches::found::Captures;
 use std::alloc::Global;
 
-/// What a scan of a text keeps of each tree: its last answer, with the place from which it was searched for.
+/// What a scan of one text keeps of each tree: the result of its last search, and the position where that began. It
+/// serves that text and that scanner alone.
 pub struct ScanCache<'t> {
     pub(crate) answers: Vec<Option<Answer<'t>>>,
 }
@@ -22,7 +23,7 @@ impl Drop for ScanCache<'_> {
 }
 
 impl<'t> ScanCache<'t> {
-    /// Nothing is kept yet, and no memory.
+    /// An empty cache. It allocates nothing.
     pub fn new(alloc: Global) -> ScanCache<'t>
         ensures { answers_in result ≡ [] }
     {
@@ -31,8 +32,8 @@ impl<'t> ScanCache<'t> {
         }
     }
 
-    /// The groups of the match that is kept of the tree with this number. None where nothing of the tree is kept, or that
-    /// it has no match.
+    /// The last match that was found of the tree with this index, with its groups. `None` if the tree was not searched
+    /// for, or if its last search found none.
     pub fn captures(&self, index: usize) -> Option<&Captures<'t>>
         ensures { option_copied result ≡ kept_captures (answers_in self.now) index }
     {

@@ -15,16 +15,16 @@ pub enum ScanLimit {
     /// A limit of backtracks, branches or instructions.
     #[error("{0}")]
     RuntimeError(RuntimeError),
-    /// The delegates of the search took up more states than `SearchLimits::visits` allows.
+    /// The delegates of the search visited more states than `SearchLimits::visits` allows.
     #[error("too many states were visited")]
     VisitLimitExceeded,
-    /// They, or the branches of the search, held more bytes than `SearchLimits::bytes` allows.
+    /// They, or the branches of the search, kept more bytes than `SearchLimits::bytes` allows.
     #[error("too much memory was held")]
     MemoryLimitExceeded,
 }
 
-/// The limit that a search passed, if it answered this error because of one; `passed` is the limit of its delegates that it
-/// passed.
+/// The limit that a search exceeded, if it returned this error because of one. `passed` is the limit of its delegates
+/// that it exceeded.
 pub(crate) fn limit_of(error: &Error, passed: Option<SearchLimit>) -> Option<ScanLimit>
     requires { EndsBy error.now passed }
     ensures { MatchOption

@@ -1,4 +1,4 @@
-//! A scan of one text, which keeps what is found of each tree from one place to the next.
+//! A scan of one text, which keeps what is found of each tree from one position to the next.
 
 ghost use Rattle.std.specs.Prelude.{◌≡◌, ◌≢◌, ◌<◌, ◌^◌, ℕ, IfErr, IfOk, IfSome, IsTrue, List, None, OnErr, OnOk, length, false, option_map, true};
 ghost use Rattle.std.specs.Option.{option_copied};
@@ -29,22 +29,21 @@ pub struct TreeMatch<'t> {
     pub whole: Match<'t>,
 }
 
-/// What the trees of a scan come to from a place on.
+/// What the searches for the trees of a scan found from a position on.
 #[derive(Clone, Copy)]
 pub struct ScanStep<'t> {
-    /// The match that begins first, of the first matches of the trees that answered; of several that begin there that of
-    /// the tree that was added first. `ScanText::captures` has its groups.
+    /// Of the first match of each tree, the one that starts first. If several start there, it is the match of the tree
+    /// that was added first. Trees whose search exceeded a limit do not count. `ScanText::captures` has the groups.
     pub found: Option<TreeMatch<'t>>,
     /// The first tree whose search exceeded a limit, if there is one.
     pub stopped: Option<Stopped>,
 }
 
-/// A scan of one text from place to place for the trees of a scanner, as a highlighter makes it.
+/// A scan of one text for the trees of a scanner, from position to position, as a highlighter makes it.
 ///
-/// Where `Scanner::add_tree` added a tree, what is found of it is kept as long as it holds, and it is searched for again
-/// only from a place past that. So a scan from left to right goes over the text once for each tree, and not once for each
-/// place. A tree with a `\G` or of an anchored search is searched for at each place, and one with a `\K` until it is not
-/// found any more.
+/// What is found of a tree is kept as long as it holds, if `Scanner::add_tree` or `push` added the tree. So a scan from
+/// left to right reads the text once for each tree, and not once for each position. A tree with `\G` or of an anchored
+/// search is searched for at each position, and one with `\K` until it has no more match.
 #[derive(Drop)]
 pub struct ScanText<'r, 't> {
     pub(crate) scanner: &'r mut Scanner,
@@ -53,11 +52,16 @@ pub struct ScanText<'r, 't> {
 }
 
 impl<'r, 't> ScanText<'r, 't> {
-    /// The match that begins first, of the first matches of all trees from this place on, a byte of the text; of several
-    /// that begin there that of the tree that was added first. It is what `Scanner::find_from` finds.
+    /// Returns the match that starts first, of the first matches of all trees from `pos` on. If several start there, it
+    /// is the match of the tree that was added first. `Scanner::find_from` finds the same.
     ///
-    /// A tree whose search exceeds a limit does not hide the matches of the others: the first such tree is reported beside
-    /// them. Out of memory is `Error::Memory`.
+    /// `pos` is in bytes: the start of a character of the text, or the length of the text. The caller proves this. If
+    /// the search for a tree exceeds a limit, the others are searched for all the same, and `stopped` has the first
+    /// such tree.
+    ///
+    /// # Errors
+    ///
+    /// `Memory` if an allocation fails; there is no other. A limit is no error here: `stopped` reports it.
     pub fn find_from(&mut self, pos: usize) -> Result<ScanStep<'t>, Error>
         requires { IsTrue (places.is_place (text_of self.old) pos) }
         ensures promise { (rules : List Rule)
@@ -95,8 +99,8 @@ impl<'r, 't> ScanText<'r, 't> {
         Ok(ScanStep { found, stopped })
     }
 
-    /// The groups of the match that is kept of the tree with this number: after `find_from` found a match of it, those of
-    /// this match. None where nothing of the tree is kept, or that it has no match.
+    /// The last match that was found of the tree with this index, with its groups; after `find_from` found a match,
+    /// that match. `None` if the tree was not searched for, or if its last search found none.
     pub fn captures(&self, index: usize) -> Option<&Captures<'t>>
         ensures { option_copied result ≡ kept_captures (answers_of self.now) index }
     {
@@ -110,7 +114,7 @@ impl<'r, 't> ScanText<'r, 't> {
         self.scanner.tree_count()
     }
 
-    /// The text.
+    /// The text that is scanned.
     pub fn text(&self) -> &'t str
         ensures { result.now ≡ text_of self.now }
     {
@@ -128,7 +132,7 @@ impl<'r, 't> ScanText<'r, 't> {
         }
     }
 
-    /// The limit of its delegates that the last search for the tree with this number passed.
+    /// The limit of its delegates that the last search for the tree with this index exceeded.
     pub(crate) fn passed(&self, index: usize) -> Option<SearchLimit>
         requires { index < length (trees_of self.now.scanner.now) }
         ensures { result ≡ passed_at self.now.scanner.now index }

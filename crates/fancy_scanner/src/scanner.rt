@@ -1,4 +1,4 @@
-//! Trees that are searched for together.
+//! Trees that are searched for together. Positions are in bytes of the text, from 0.
 
 ghost use Rattle.std.specs.Prelude.{◌≡◌, ◌≢◌, ◌⊎◌, ◌++◌, ◌∷◌, ◌<◌, ◌≤◌, ◌^◌, [], ℕ, IfErr, IfOk, IfSome, IsTrue, List, MatchResult, None, OnErr, OnOk, Option, Some, length, option_map};
 ghost use Rattle.fancy_meaning.specs.Options as plain;
@@ -26,7 +26,7 @@ use fancy_search::search::SearchOptions;
 use fancy_vm::vm::{SearchLimit, SearchLimits};
 use std::alloc::{AllocError, Global};
 
-/// A match of one of the trees.
+/// A match of one of the trees, with its groups.
 #[derive(Drop)]
 pub struct ScanMatch<'t> {
     /// Which tree it is of: how many were added before it.
@@ -42,11 +42,11 @@ pub struct Stopped {
     pub limit: ScanLimit,
 }
 
-/// What the searches for all trees came to.
+/// What the searches for all trees found.
 #[derive(Drop)]
 pub struct Scan<'t> {
-    /// The match that begins first, of the first matches of the trees that answered; of several that begin there that of
-    /// the tree that was added first.
+    /// Of the first match of each tree, the one that starts first. If several start there, it is the match of the tree
+    /// that was added first. Trees whose search exceeded a limit do not count.
     pub found: Option<ScanMatch<'t>>,
     /// The first tree whose search exceeded a limit, if there is one.
     pub stopped: Option<Stopped>,
@@ -78,9 +78,12 @@ impl Drop for ScanTree {
 }
 
 impl ScanTree {
-    /// Compiles the tree as `Regex::new` does it. A `ScanText` keeps what is found of it as long as it holds.
+    /// Analyses and compiles the tree, as `Regex::new` of fancy_matches does. The parameters are the same.
     ///
-    /// The tree is refused as `Regex::new` refuses it. Out of memory is `Error::Memory`.
+    /// # Errors
+    ///
+    /// Those of `Regex::new`: `CompileError` or `NestLimitExceeded` if the tree is refused, `Memory` if an allocation
+    /// fails.
     pub fn new(
         alloc: Global,
         tree: &ExprTree,
@@ -101,8 +104,8 @@ impl ScanTree {
         Ok(ScanTree { regex, lasting })
     }
 
-    /// Each search for the tree may take so much, its delegates together; before, there is no such limit. A search that
-    /// exceeds one is reported as stopped by it.
+    /// Sets how many states the delegates of each later search may visit together, and how many bytes they may keep.
+    /// Before this call there is no such limit. A search that exceeds one is reported as [`Stopped`].
     pub fn limit(&mut self, limits: SearchLimits)
         ensures { (r : Rule) (text : List ℕ)
             → IsTreeOf r text self.old
@@ -126,7 +129,7 @@ impl Drop for Scanner {
 }
 
 impl Scanner {
-    /// No tree yet, and no memory.
+    /// A scanner without trees. It allocates nothing.
     pub fn new(alloc: Global) -> Scanner
         ensures { (text : List ℕ) → IsScannerOf [] text result }
     {
@@ -136,7 +139,11 @@ impl Scanner {
         }
     }
 
-    /// One more tree, after the others. The only error is `AllocError`, which leaves the scanner as it was.
+    /// Adds a compiled tree after the others. Its index is the number of trees before it.
+    ///
+    /// # Errors
+    ///
+    /// `AllocError` if an allocation fails. The scanner then has the trees that it had.
     pub fn push(&mut self, tree: ScanTree) -> Result<(), AllocError>
         ensures ok { OnOk result ((text : List ℕ) (rules : List Rule) (r : Rule)
             → IsScannerOf rules text self.old → IsTreeOf r text tree
@@ -148,8 +155,12 @@ impl Scanner {
         Ok(())
     }
 
-    /// One more tree, after the others. Of a tree that comes compiled, nothing is kept in a `ScanText`; `add_tree` takes
-    /// one of which it may be. The only error is `AllocError`, which leaves the scanner as it was.
+    /// Adds a regex after the other trees, with its limits. A [`ScanText`] searches for it at each position again,
+    /// since the tree is no longer there to show how long a result holds; `add_tree` is the faster way.
+    ///
+    /// # Errors
+    ///
+    /// `AllocError` if an allocation fails. The scanner then has the trees that it had.
     pub fn add(&mut self, regex: Regex) -> Result<(), AllocError>
         ensures ok { OnOk result ((text : List ℕ) (rules : List Rule) (i : Input)
             (o : plain.RunOptions)
@@ -167,11 +178,11 @@ impl Scanner {
         Ok(())
     }
 
-    /// One more tree, after the others, compiled as `Regex::new` does it. A `ScanText` keeps what is found of it as long
-    /// as it holds.
+    /// Compiles a tree, as `ScanTree::new` does, and adds it after the others.
     ///
-    /// The tree is refused as `Regex::new` refuses it. Out of memory is `Error::Memory`. After an error the scanner is as
-    /// it was.
+    /// # Errors
+    ///
+    /// Those of `ScanTree::new`. After an error the scanner has the trees that it had.
     pub fn add_tree(
         &mut self,
         tree: &ExprTree,
@@ -231,7 +242,7 @@ impl Scanner {
         self.trees[index].regex.captures_from(text, pos)
     }
 
-    /// The limit of its delegates that the last search for the tree with this number passed.
+    /// The limit of its delegates that the last search for the tree with this index exceeded.
     pub(crate) fn passed(&self, index: usize) -> Option<SearchLimit>
         requires { index < length (trees_of self.now) }
         ensures { result ≡ passed_at self.now index }
@@ -239,12 +250,16 @@ impl Scanner {
         self.trees[index].regex.passed()
     }
 
-    /// The match that begins first, of the first matches of all trees from this place on, a byte of the text; of several
-    /// that begin there that of the tree that was added first.
+    /// Searches for each tree from `pos` on, and returns the match that starts first. If several start there, it is the
+    /// match of the tree that was added first.
     ///
-    /// A tree whose search exceeds a limit does not hide the matches of the others: the first such tree is reported beside
-    /// them. Out of memory is `Error::Memory`. Each tree is searched for once, as far as the text goes; `scan` keeps
-    /// what is found from one place to the next.
+    /// `pos` is in bytes: the start of a character of the text, or the length of the text. The caller proves this. If
+    /// the search for a tree exceeds a limit, the others are searched for all the same, and `stopped` has the first
+    /// such tree. Each call searches for all trees; `scan` keeps what is found from one call to the next.
+    ///
+    /// # Errors
+    ///
+    /// `Memory` if an allocation fails; there is no other. A limit is no error here: `stopped` reports it.
     pub fn find_from<'t>(&mut self, text: &'t str, pos: usize) -> Result<Scan<'t>, Error>
         requires { IsTrue (places.is_place text.now pos) }
         ensures promise { (rules : List Rule)
@@ -277,15 +292,26 @@ impl Scanner {
         Ok(Scan { found, stopped })
     }
 
-    /// A cache for a scan of a text by this scanner, which keeps nothing yet.
+    /// An empty cache for a scan of one text by this scanner. It allocates nothing.
     pub fn create_cache<'t>(&self) -> ScanCache<'t>
         ensures { answers_in result ≡ [] }
     {
         ScanCache::new(self.alloc)
     }
 
-    /// A scan of one text, which keeps in the cache what is found from one place to the next. The cache is a new one, or
-    /// what an earlier scan of this text by this scanner kept. Both are the caller's again once the scan is gone.
+    /// Begins a scan of one text, which keeps in the cache what is found from one position to the next. The cache is
+    /// empty, or it was filled by an earlier scan of the same text by this scanner. The scan borrows both.
+    ///
+    /// # Examples
+    ///
+    /// ```
+    /// scanner.add_tree(&string, &options, None)?;
+    /// scanner.add_tree(&number, &options, None)?;
+    /// let mut cache = scanner.create_cache();
+    /// let mut scan = scanner.scan("a 12 \"b\"", &mut cache);
+    /// let step = scan.find_from(0)?; // found: index 1, whole 2..4
+    /// let next = scan.find_from(4)?; // found: index 0, whole 5..8
+    /// ```
     pub fn scan<'r, 't>(
         &'r mut self,
         text: &'t str,
@@ -300,8 +326,12 @@ impl Scanner {
         }
     }
 
-    /// What `ScanText::find_from` finds in a scan of this text with this cache: for who holds the cache beside the scanner,
-    /// and scans from call to call.
+    /// Does what `ScanText::find_from` does, with a cache that the caller keeps from one call to the next. The cache is
+    /// empty, or it was filled for the same text by this scanner.
+    ///
+    /// # Errors
+    ///
+    /// `Memory` if an allocation fails; there is no other. A limit is no error here: `stopped` reports it.
     pub fn find_with<'t>(
         &mut self,
         text: &'t str,

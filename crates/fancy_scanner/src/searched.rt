@@ -1,15 +1,15 @@
-//! How often a tree is searched for in a scan of a text from left to right: theorems, each the contract of a function that
-//! does nothing.
+//! How often a tree is searched for in a scan of a text from left to right: theorems, each the contract of a function
+//! that does nothing.
 
 ghost use Rattle.fancy_scanner.specs.Searched.{NoSearchAfterNone, StartsOfScan};
 
-/// Where the matches of a tree last, the searches for it in one scan begin together at most one start for each place of
-/// the text.
+/// If matches of a tree last, all searches for it in one scan try at most one start for each position of the text
+/// together.
 pub fn starts_of_scan()
     ensures { StartsOfScan }
 {}
 
-/// Where it lasts that there is no match, a tree is not searched for again once it has none.
+/// If it lasts that a tree has no match, the tree is not searched for again once it has none.
 pub fn no_search_after_none()
     ensures { NoSearchAfterNone }
 {}

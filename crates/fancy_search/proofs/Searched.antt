@@ -1,6 +1,6 @@
 -- A search by the engine's calls answers as is promised.
 use Rattle.std.proofs.Common.{◌≡◌, ℕ, Bool, true, false, not, ◌&&◌, ◌||◌, List, length, Option, Some, None, Result, Ok, Err, refl, sym, ap, ◌∙◌, subst, le-leb, arith}
-use Rattle.std.specs.Prelude.{IfOk, IsUtf8}
+use Rattle.std.specs.Prelude.{IfOk, IfSome, IsUtf8}
 use Rattle.std.specs.declared.vec.Vec.{Vec}
 use Rattle.std.specs.declared.alloc.Global.{Global}
 use Rattle.std.proofs.lemmas.Bool.{and_parts, and_from}
@@ -13,7 +13,8 @@ use Rattle.fancy_meaning.specs.Layout.{layout}
 use Rattle.fancy_meaning.specs.Machine as machine
 use Rattle.fancy_meaning.specs.Fits.{run_fits}
 use Rattle.fancy_meaning.specs.Places.{is_place}
-use Rattle.fancy_meaning.specs.Premises.{Analysed, Input, analysis, plan, tree_of, IsAccepted}
+use Rattle.fancy_meaning.specs.Options.{AnalysisOptions}
+use Rattle.fancy_meaning.specs.Premises.{Analysed, Input, analysis, plan, tree_of as analysed_tree, IsAccepted}
 use Rattle.fancy_meaning.specs.Sizes.{Size, size}
 use Rattle.fancy_meaning.specs.Promise.{IsRefused, by_analysis, by_compiler, by_regex}
 use Rattle.fancy_expr.specs.declared.error.Error.{Error}
@@ -22,7 +23,7 @@ use Rattle.fancy_expr.specs.declared.error.RuntimeError.{RuntimeError}
 use Rattle.fancy_expr.specs.declared.error.RuntimeError.TheVariants as limit
 use Rattle.fancy_expr.specs.declared.expr.ExprTree.{ExprTree}
 use Rattle.fancy_expr.specs.Sound.{IsWellFormedTree}
-use Rattle.fancy_expr.specs.Views.{parsed_of}
+use Rattle.fancy_expr.specs.Views.{parsed_of, tree_of}
 use Rattle.fancy_info.specs.declared.context.AnalyzeContext.{AnalyzeContext}
 use Rattle.fancy_info.specs.declared.info.Info.{Info}
 use Rattle.fancy_analysis.specs.Analyses.{IsAnalysisOf, IsRefusedAs}
@@ -39,10 +40,12 @@ use Rattle.fancy_compile.specs.declared.options.CompileOptions.{CompileOptions}
 use Rattle.fancy_compile.proofs.Known.{size_known}
 use Rattle.fancy_compile.proofs.Roots.{root_known}
 use Rattle.fancy_compile.specs.Compiled.{Compiles, MayAnswer, MayCompile, plan_with, refuses, too_big}
+use Rattle.fancy_search.specs.Copies.{IsCopyOf}
+use Rattle.fancy_search.specs.declared.common.Common.{Common}
 use Rattle.fancy_search.specs.declared.search.Compiled.{Compiled}
 use Rattle.fancy_search.specs.Searches as searches
 use Rattle.fancy_search.specs.declared.search.SearchOptions.{SearchOptions}
-use Rattle.fancy_search.specs.Searches.{IsCompiledFrom, IsMadeWithin, IsNestedOver, Promises, PromisesWithin, input_of, limit_of, program, program_of, instructions_of, options_fit, search_fits}
+use Rattle.fancy_search.specs.Searches.{IsCompiledFrom, IsCopied, IsMadeWithin, IsNestedOver, Promises, PromisesWithin, input_of, limit_of, program, program_of, instructions_of, options_fit, search_fits}
 
 -- where a character begins or the text ends, the test for a place says yes
 pub place_of : (text : List ℕ) (i : ℕ) → IsCharBoundary text i → is_place text i ≡ true
@@ -89,19 +92,33 @@ module _ (t : ExprTree) (context : AnalyzeContext) (o : CompileOptions) (ok : Is
   compiler_refused (error.TreeFault at) h = h
   compiler_refused error.NestLimitExceeded h = h
 
-  pub compiled_from : (i : Info) (prog : Prog) (least : ℕ) → least ≡ (info_size i).least → IsAnalysisOf t (analysis_options_of context) i →
-      Compiles (plan_with analysed o) o.max_nesting (Ok prog) → IsCompiledFrom input (record { prog = prog; min_size = least })
-  compiled_from i prog least is h compiled = record {
+  -- so is what is kept of the tree for engines
+  copied : (i : Info) → IsAnalysisOf t (analysis_options_of context) i → (common : Option Common) → IfSome common (IsCopyOf i o) →
+      IfSome common (IsCopied input)
+  copied i h None is = tt
+  copied i h (Some common) is = record {
+    tree = is.tree ∙ ap tree_of h.expr;
+    unicode = is.unicode;
+    any_start = is.any_start;
+    any_end = is.any_end;
+    implicit = sym (ap (λ (x : AnalysisOptions). x.explicit_capture_group_0) ((h.root).node).options) ∙ is.implicit;
+  }
+
+  pub compiled_from : (i : Info) (prog : Prog) (least : ℕ) (common : Option Common) → least ≡ (info_size i).least →
+      IsAnalysisOf t (analysis_options_of context) i → Compiles (plan_with analysed o) o.max_nesting (Ok prog) → IfSome common (IsCopyOf i o) →
+      IsCompiledFrom input (record { prog = prog; min_size = least; common = common })
+  compiled_from i prog least common is h compiled copy = record {
     well_formed = ok.0;
     same_end_text = same_end_text;
     analysable = h.accepted;
     compilable = compiled.not_refused;
     program = compiled.layout;
     least =
-        let whole = tree_of analysed in
+        let whole = analysed_tree analysed in
         let same = is ∙ ap (λ (z : Size). z.least)
         (size_known i (analysis analysed) (root_known analysed i h.root) ∙ ap (size whole) (h.root).tree) in
         omega (arith, same);
+    common = copied i h common copy;
   }
 
 -- where group 0 is implicit, the tree is accepted

@@ -1,2 +1,4 @@
+pub mod Copies
 pub mod Requests
 pub mod Searches
+pub mod Scratches

@@ -1,7 +1,8 @@
 -- The promise filled in for a search of the code: its input, its program, its reply, and what it was compiled from.
-use Rattle.std.specs.Prelude.{◌≡◌, ◌≤◌, ℕ, Bool, true, ◌&&◌, ◌||◌, not, List, Option, length, Result, Ok, Err}
+use Rattle.std.specs.Prelude.{◌≡◌, ◌≤◌, ℕ, Bool, true, false, ◌&&◌, ◌||◌, not, IfSome, List, Option, option_map, length, Result, Ok, Err}
 use Rattle.std.specs.declared.vec.Vec.{Vec}
 use Rattle.std.specs.declared.alloc.Global.{Global}
+use Rattle.fancy_meaning.specs.Answer.{answer, search_of}
 use Rattle.fancy_meaning.specs.Options as plain
 use Rattle.fancy_meaning.specs.Places.{is_place}
 use Rattle.fancy_meaning.specs.Sizes.{size}
@@ -12,16 +13,17 @@ use Rattle.fancy_meaning.specs.WellFormed.{IsWellFormed}
 use Rattle.fancy_meaning.specs.AnalysisRefusals.{CompileError, AnalysisRefuses}
 use Rattle.fancy_meaning.specs.CompileRefusals.{CompileRefuses}
 use Rattle.fancy_meaning.specs.Layout.{layout}
-use Rattle.fancy_meaning.specs.Premises.{Input, plan}
+use Rattle.fancy_meaning.specs.Premises.{Input, plan, IsAccepted}
 use Rattle.fancy_meaning.specs.Promise.{Limit, Backtracks, Branches, Instructions, Reply, Found, Refused, Passed, OutOfMemory, IsRefused, Promise}
 use Rattle.fancy_expr.specs.declared.error.Error.{Error}
 use Rattle.fancy_expr.specs.declared.error.Error.TheVariants as error
 use Rattle.fancy_expr.specs.declared.error.RuntimeError.{RuntimeError}
 use Rattle.fancy_expr.specs.declared.error.RuntimeError.TheVariants as limit
 use Rattle.fancy_expr.specs.declared.expr.ExprTree.{ExprTree}
-use Rattle.fancy_expr.specs.Views.{parsed_of}
+use Rattle.fancy_expr.specs.Views.{parsed_of, tree_of}
 use Rattle.fancy_info.specs.declared.context.AnalyzeContext.{AnalyzeContext}
 use Rattle.fancy_info.specs.Infos.{analysis_options_of}
+use Rattle.fancy_steps.specs.Outcomes.{first_pair}
 use Rattle.fancy_vm.specs.Bounds.{IfLimit, MayPass}
 use Rattle.fancy_vm.specs.Means.{numbers_of}
 use Rattle.fancy_program.specs.declared.insn.Prog.{Prog}
@@ -29,6 +31,7 @@ use Rattle.fancy_program.specs.Programs.{prog_of}
 use Rattle.fancy_compile.specs.declared.options.CompileOptions.{CompileOptions}
 use Rattle.fancy_compile.specs.Compiled.{compile_options_of, IsNestedOver as plan_nests_over}
 use Rattle.fancy_expr.specs.Errors.{error_of}
+use Rattle.fancy_search.specs.declared.common.Common.{Common}
 use Rattle.fancy_search.specs.declared.search.Compiled.{Compiled}
 use Rattle.fancy_search.specs.declared.search.SearchOptions.{SearchOptions}
 
@@ -110,6 +113,20 @@ module _ (i : Input) where
   abbrev pub Bounds : List ℕ → plain.RunOptions → Result (Option (Vec ℕ Global)) Error → Type 0
   Bounds text o result = IfLimit result (MayPass i text o)
 
+  -- a search that answers the first pair of the numbers alone does so as is promised, and a limit only below its bound
+  abbrev pub PromisesPair : List ℕ → plain.RunOptions → Result (Option (ℕ × ℕ)) Error → Type 0
+  PromisesPair text o (Ok found) =
+      IsAccepted i (instructions_of i) × (found ≡ option_map first_pair (answer (search_of (plan i) text o)))
+  PromisesPair text o (Err e) = Promises text o (Err e) × Bounds text o (Err e)
+
+  -- It is the tree, and searches for it are for the first match at any start.
+  pub record IsCopied (c : Common) : Type 0 where
+    pub tree : tree_of c.expr ≡ (i.parsed).tree
+    pub unicode : c.unicode ≡ (i.options).unicode
+    pub any_start : (i.options).anchored ≡ false
+    pub any_end : (i.options).end_text ≡ false
+    pub implicit : (i.analysis).explicit_capture_group_0 ≡ false
+
   -- the tree is refused with the error, with this limit of nesting, or memory was
   abbrev pub IsRefusedAs : Option ℕ → Error → Type 0
   IsRefusedAs max_nesting (error.CompileError e) = IsRefused i (instructions_of i) (error_of e)
@@ -129,6 +146,8 @@ module _ (i : Input) where
     pub program : prog_of (program compiled) ≡ program_of i
     -- each way of the tree takes as many characters
     pub least : compiled.min_size ≤ (size (plan i).analysis.tree (plan i).analysis.tree).least
+    -- what it keeps for engines is the tree
+    pub common : IfSome compiled.common IsCopied
 
 -- it was compiled from some tree
 abbrev pub HasSource : Compiled → Type 0

@@ -1,5 +1,8 @@
 //! A search for a tree in a text by one call, and a tree that is compiled once and searched for many times.
 #![tactic(auto)]
 
+mod common;
+mod gears;
 pub mod request;
+pub mod scratch;
 pub mod search;

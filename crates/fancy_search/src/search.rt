@@ -11,17 +11,20 @@ ghost use Rattle.fancy_compile.specs.Compiled.{compile_options_of};
 ghost use Rattle.fancy_expr.specs.Sound.{IsWellFormedTree};
 ghost use Rattle.fancy_steps.specs.Outcomes.{answer_in};
 ghost use Rattle.fancy_steps.specs.SearchLimits.{StaysWithin};
-ghost use Rattle.fancy_vm.specs.Scratches.{limits_of, passed_of};
 ghost use Rattle.fancy_steps.specs.Tasks.{default_at, options_of as run_options_of, task_of};
-ghost use Rattle.fancy_search.specs.Searches.{Bounds, IsCompiledFrom, IsMadeWithin, IsNestedOver, IsRefusedAs, Promises, PromisesWithin, input_of, program, search_fits};
+ghost use Rattle.fancy_search.specs.Searches.{Bounds, IsCompiledFrom, IsMadeWithin, IsNestedOver, IsRefusedAs, Promises, PromisesWithin, input_of, program, search_fits, PromisesPair};
 ghost use Rattle.fancy_search.specs.Searches as searches;
+ghost use Rattle.fancy_search.specs.Scratches.{Suits, limits_of, passed_of};
 
+use crate::common::{Common, common_of};
+use crate::scratch::Scratch;
 use fancy_analysis::analyze::{AnalyzeContext, analyze};
 use fancy_characters::places::is_place;
 use fancy_compile::compile::{CompileOptions, compile};
 use fancy_expr::error::Error;
 use fancy_expr::expr::ExprTree;
-use fancy_vm::vm::{Prog, RunOptions, Scratch, run, run_into};
+use fancy_hybrid::search::Stop;
+use fancy_vm::vm::{Prog, RunOptions};
 use std::alloc::Global;
 
 /// The options of the three stages of a search.
@@ -91,9 +94,11 @@ impl Default for SearchOptions {
 
 /// A tree that was compiled for searches: its program, and what is known of its matches.
 pub struct Compiled {
-    prog: Prog,
+    pub(crate) prog: Prog,
     /// How many characters each match takes at least.
     min_size: usize,
+    /// The tree, if an engine may search for it.
+    pub(crate) common: Option<Common>,
 }
 
 // Not derived: whoever owns one calls this drop, and would prove a derived one again (docs/GATE.md).
@@ -102,6 +107,7 @@ impl Drop for Compiled {
         let Compiled {
             prog: _,
             min_size: _,
+            common: _,
         } = self;
     }
 }
@@ -132,7 +138,12 @@ impl Compiled {
         let info = analyze(alloc, tree, context)?;
         let min_size = info.min_size();
         let prog = compile(alloc, &info, options)?;
-        Ok(Compiled { prog, min_size })
+        let common = common_of(alloc, &info, options)?;
+        Ok(Compiled {
+            prog,
+            min_size,
+            common,
+        })
     }
 
     /// The program of the tree.
@@ -146,7 +157,11 @@ impl Compiled {
     pub fn into_program(self) -> Prog
         ensures { result ≡ program self }
     {
-        let Compiled { prog, min_size: _ } = self;
+        let Compiled {
+            prog,
+            min_size: _,
+            common: _,
+        } = self;
         prog
     }
 
@@ -192,7 +207,8 @@ impl Compiled {
         options: &RunOptions,
         scratch: &mut Scratch,
     ) -> Result<Option<Vec<usize>>, Error>
-        requires { IsTrue (run_fits (task_of (program self.now) text.now options.now)) }
+        requires fits { IsTrue (run_fits (task_of (program self.now) text.now options.now)) }
+        requires suits { Suits self.now scratch.old }
         ensures promise { (i : Input)
             → IsCompiledFrom i self.now
             → Promises i text.now (run_options_of options.now) result }
@@ -201,12 +217,13 @@ impl Compiled {
             → Bounds i text.now (run_options_of options.now) result }
         ensures limits { limits_of scratch.new ≡ limits_of scratch.old }
         ensures stays { StaysWithin result (passed_of scratch.new) }
+        ensures suits { Suits self.now scratch.new }
     {
-        if self.is_too_short(text, options.pos) {
-            scratch.limit(scratch.limits());
+        let mut numbers = Vec::new(alloc);
+        if !self.search_into(alloc, text, options, scratch, &mut numbers)? {
             return Ok(None);
         }
-        run(alloc, &self.prog, text, options, scratch)
+        Ok(Some(numbers))
     }
 
     /// As `search`, but it returns whether there is a match, and writes the numbers over `numbers`, in the memory that it
@@ -223,7 +240,8 @@ impl Compiled {
         scratch: &mut Scratch,
         numbers: &mut Vec<usize>,
     ) -> Result<bool, Error>
-        requires { IsTrue (run_fits (task_of (program self.now) text.now options.now)) }
+        requires fits { IsTrue (run_fits (task_of (program self.now) text.now options.now)) }
+        requires suits { Suits self.now scratch.old }
         ensures promise { (i : Input)
             → IsCompiledFrom i self.now
             → Promises i text.now (run_options_of options.now) (answer_in result numbers.new) }
@@ -232,12 +250,57 @@ impl Compiled {
             → Bounds i text.now (run_options_of options.now) (answer_in result numbers.new) }
         ensures limits { limits_of scratch.new ≡ limits_of scratch.old }
         ensures stays { StaysWithin result (passed_of scratch.new) }
+        ensures suits { Suits self.now scratch.new }
     {
         if self.is_too_short(text, options.pos) {
             scratch.limit(scratch.limits());
             return Ok(false);
         }
-        run_into(alloc, &self.prog, text, options, scratch, numbers)
+        if !self.is_due(options, scratch) {
+            return self.search_by_run(alloc, text, options, scratch, numbers);
+        }
+        match self.search_by_engine(alloc, text, options, scratch, numbers) {
+            Ok(found) => Ok(found),
+            Err(Stop::Memory) => Err(Error::Memory),
+            Err(Stop::GaveUp) => {
+                scratch.give_up_engine();
+                self.search_by_run(alloc, text, options, scratch, numbers)
+            }
+        }
+    }
+
+    /// As `search`, with the first pair of its numbers for an answer: start and end of the match in bytes.
+    pub fn find(
+        &self,
+        alloc: Global,
+        text: &str,
+        options: &RunOptions,
+        scratch: &mut Scratch,
+    ) -> Result<Option<(usize, usize)>, Error>
+        requires fits { IsTrue (run_fits (task_of (program self.now) text.now options.now)) }
+        requires suits { Suits self.now scratch.old }
+        ensures promise { (i : Input)
+            → IsCompiledFrom i self.now
+            → PromisesPair i text.now (run_options_of options.now) result }
+        ensures limits { limits_of scratch.new ≡ limits_of scratch.old }
+        ensures stays { StaysWithin result (passed_of scratch.new) }
+        ensures suits { Suits self.now scratch.new }
+    {
+        if self.is_too_short(text, options.pos) {
+            scratch.limit(scratch.limits());
+            return Ok(None);
+        }
+        if !self.is_due(options, scratch) {
+            return self.find_by_run(alloc, text, options, scratch);
+        }
+        match self.find_by_engine(alloc, text, options, scratch) {
+            Ok(found) => Ok(found),
+            Err(Stop::Memory) => Err(Error::Memory),
+            Err(Stop::GaveUp) => {
+                scratch.give_up_engine();
+                self.find_by_run(alloc, text, options, scratch)
+            }
+        }
     }
 }
 
@@ -285,5 +348,6 @@ pub fn search(
         result }
 {
     let compiled = Compiled::new(alloc, tree, options.analysis, options.compilation)?;
+    scratch.leave_to_runs();
     compiled.search(alloc, text, &options.run, scratch)
 }

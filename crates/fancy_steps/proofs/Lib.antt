@@ -3,7 +3,6 @@ pub mod ThreadsLaws
 pub mod NumbersLaws
 pub mod CountLaws
 pub mod StepLaws
-pub mod LookBehindCacheLaws
 pub mod TrailingNewlinesLaws
 pub mod MemosLaws
 pub mod PairsLaws

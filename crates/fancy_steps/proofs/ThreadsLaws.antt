@@ -4,7 +4,6 @@ use Rattle.std.proofs.Crossing as std
 use Rattle.std.proofs.MapsCrossing as maps
 use Rattle.fancy_backtrack.specs.contracts.memo.Memo as Memo
 use Rattle.fancy_plain.specs.contracts.group_spans.GroupSpans as GroupSpans
-use Rattle.fancy_plain.specs.contracts.one_pass_cache.OnePassCache as OnePassCache
 use Rattle.fancy_steps.specs.contracts.memos.Memos as Memos
 
 -- each type in turn, since a `search` through all of them at once runs out of steps
@@ -14,8 +13,5 @@ memo_sends = search (std.crosses, maps.crosses, sendable) depth 60 fits 20000
 groups_send : IsSend GroupSpans.the_field.row
 groups_send = search (std.crosses, sendable) depth 60 fits 20000
 
-kept_send : IsSend OnePassCache.the_field.row
-kept_send = search (std.crosses, sendable) depth 60 fits 20000
-
 pub memos_sends : IsSend Memos.the_field.row
-memos_sends = search (memo_sends, groups_send, kept_send, std.crosses, sendable) depth 60 fits 20000
+memos_sends = search (memo_sends, groups_send, std.crosses, sendable) depth 60 fits 20000

@@ -1,11 +1,9 @@
 pub mod Tasks
 pub mod MemoRuns
-pub mod SearchEnds
 pub mod Memos
 pub mod Sound
 pub mod Stops
 pub mod TrailingNewlines
-pub mod LookBehindCaches
 pub mod Outcomes
 pub mod SearchLimits
 pub mod LastStarts

@@ -2,10 +2,8 @@
 #![tactic(auto)]
 
 mod delegates;
-pub mod far_matches;
 pub mod limits;
 pub mod longest;
-mod look_behind_cache;
 pub mod machine;
 pub mod memos;
 pub mod options;
@@ -14,3 +12,4 @@ pub mod search_limits;
 pub mod starts;
 mod steps;
 mod trailing_newlines;
+pub mod walks;

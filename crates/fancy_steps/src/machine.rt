@@ -6,11 +6,9 @@ ghost use Rattle.fancy_meaning.specs.Machine as machine;
 ghost use Rattle.fancy_state.specs.Held.{state_bytes, first_state};
 ghost use Rattle.fancy_steps.specs.SearchLimits.{is_past, is_past_bytes};
 ghost use Rattle.fancy_steps.specs.Sound.{IsSound};
-ghost use Rattle.fancy_steps.specs.LookBehindCaches.{IsLookBehindCache};
 ghost use Rattle.fancy_steps.specs.TrailingNewlines.{AreTrailingNewlines};
 
 use crate::longest::Longest;
-use crate::look_behind_cache::LookBehindCache;
 use crate::options::RunOptions;
 use crate::search_limits::SearchLimits;
 use crate::trailing_newlines::TrailingNewlines;
@@ -54,11 +52,8 @@ pub struct Machine<'a> {
     pub longest: Longest,
     /// From where on only newlines are left in the text.
     pub(crate) trailing_newlines: TrailingNewlines,
-    /// What the last long step back found.
-    pub(crate) look_behind_cache: LookBehindCache,
     ghost sound: { IsSound task state.held },
     ghost are_trailing_newlines: { AreTrailingNewlines task.text.now trailing_newlines },
-    ghost is_cache: { IsLookBehindCache task.text.now look_behind_cache },
 }
 
 /// What an instruction led to.
@@ -186,7 +181,6 @@ impl<'a> Machine<'a> {
             state,
             longest,
             trailing_newlines: TrailingNewlines::new(),
-            look_behind_cache: LookBehindCache::new(),
         }
     }
 

@@ -1,9 +1,8 @@
 //! How much the searches of a run's delegates may take together, and what they took.
 
-ghost use Rattle.std.specs.Prelude.{◌≡◌, ◌+◌, ◌-◌, ℕ, min, None, IfOk, IsTrue, OnOk};
+ghost use Rattle.std.specs.Prelude.{◌≡◌, ◌+◌, ◌-◌, min, None, IfOk, IsTrue, OnOk};
 ghost use Rattle.fancy_meaning.specs.Places.{is_place};
-ghost use Rattle.fancy_fragments.specs.Fragments.{IsFirstWayOf, IsJoinedMemoFor, joined_nfa};
-ghost use Rattle.fancy_plain.specs.FoundEnds.{ChoicesLead};
+ghost use Rattle.fancy_fragments.specs.Fragments.{IsFirstWayOf, IsJoinedMemoFor};
 ghost use Rattle.fancy_plain.specs.Ways.{HasAscending};
 ghost use Rattle.fancy_steps.specs.SearchLimits.{held_by, left_of, no_cost, no_limits, passed_by};
 
@@ -128,8 +127,6 @@ impl SearchCost {
         ensures first { IfOk result (IsFirstWayOf task.now.text.now fragment.now ix) }
         ensures ascends { IfOk result HasAscending }
         ensures memo { IsJoinedMemoFor task.now.text.now fragment.now memo.new }
-        ensures choices { IfOk result
-            (ChoicesLead task.now.text.now (joined_nfa fragment.now) memo.new) }
         ensures within { OnOk result (passed_by task.now.limits self.new ≡ None) }
         ensures visits { IfOk result
             (λ found. self.new.visits ≡ min u64.MAX (self.old.visits + found.visits)) }

@@ -3,6 +3,7 @@
 use crate::line::Line;
 use fancy_regex_engine::error::Error;
 use fancy_regex_engine::expr::{ExprTree, is_well_formed};
+use fancy_regex_engine::scratch::Scratch as SearchScratch;
 use fancy_regex_engine::search::{SearchOptions, search};
 use fancy_regex_engine::vm::{Prog, RunOptions, Scratch, run, run_default, run_spans};
 use std::alloc::Global;
@@ -90,10 +91,11 @@ pub fn push_search(
     tree: &ExprTree,
     text: &str,
     options: &SearchOptions,
-    scratch: &mut Scratch,
 ) {
     if is_well_formed(tree) && options.fits(text) {
-        push_numbers(said, "search", &search(alloc, tree, text, options, scratch));
+        let mut scratch = SearchScratch::new(alloc);
+        let answer = search(alloc, tree, text, options, &mut scratch);
+        push_numbers(said, "search", &answer);
     } else {
         said.text("search does not fit\n");
     }

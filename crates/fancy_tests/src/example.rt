@@ -4,8 +4,8 @@ use crate::columns::split;
 use crate::line::Line;
 use fancy_regex_engine::error::Error;
 use fancy_regex_engine::expr::read_tree;
+use fancy_regex_engine::scratch::Scratch;
 use fancy_regex_engine::search::{SearchOptions, search};
-use fancy_regex_engine::vm::Scratch;
 use std::alloc::Global;
 
 /// Start and end of each group of the first match, in bytes of the text.

@@ -28,7 +28,7 @@ fn push_calls(
     push_spans(said, alloc, prog, text, &options, scratch);
     push_run(said, alloc, prog, text, &options, scratch);
     push_default(said, alloc, prog, text, &options);
-    push_whole(said, alloc, tree, text, &arguments.options(), scratch);
+    push_whole(said, alloc, tree, text, &arguments.options());
 }
 
 /// The same with the program of the tree; nothing where the tree is refused.

@@ -1,5 +1,5 @@
 -- What a scratch holds, and what its last run took.
-use Rattle.std.specs.Prelude.{◌≡◌, Option, Some, None}
+use Rattle.std.specs.Prelude.{◌≡◌, ℕ, Option, Some, None}
 use Rattle.std.specs.declared.alloc.Global.{Global}
 use Rattle.fancy_steps.specs.SearchLimits.{no_cost, passed_by}
 use Rattle.fancy_steps.specs.declared.memos.Memos.{Memos}
@@ -27,6 +27,10 @@ limits_of s = s.limits
 -- what its last run took
 abbrev pub cost_of : Scratch → SearchCost
 cost_of s = cost_in (s.room).memos
+
+-- what failed attempts of its runs took
+abbrev pub spent_of : Scratch → ℕ
+spent_of s = ((s.room).filters).spent
 
 -- the limit that its last run passed
 abbrev pub passed_of : Scratch → Option SearchLimit

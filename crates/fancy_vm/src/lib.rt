@@ -1,7 +1,7 @@
 //! Runs of programs.
 #![tactic(auto)]
 
-mod required_bytes;
+pub mod required_bytes;
 mod runs;
 mod single_delegate;
 mod start_filters;

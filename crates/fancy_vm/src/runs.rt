@@ -68,7 +68,7 @@ impl Drop for Room {
 
 impl Scratch {
     ghost use Rattle.fancy_steps.specs.SearchLimits.{no_cost};
-    ghost use Rattle.fancy_vm.specs.Scratches.{cost_of};
+    ghost use Rattle.fancy_vm.specs.Scratches.{cost_of, spent_of};
 
     /// Holds no memory yet, and takes none. There is no limit.
     pub fn new(alloc: Global) -> Scratch
@@ -118,6 +118,13 @@ impl Scratch {
         ensures { result ≡ cost_of self.now }
     {
         self.room.cost()
+    }
+
+    /// What failed attempts of all runs took that searched for one fragment, in attempts that read little.
+    pub fn spent(&self) -> usize
+        ensures { result ≡ spent_of self.now }
+    {
+        self.room.filters.spent
     }
 }
 

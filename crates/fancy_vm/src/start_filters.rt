@@ -40,6 +40,8 @@ pub(crate) struct StartFilters {
     making: usize,
     /// How many states the run had taken up when the last attempt failed.
     visits: u64,
+    /// How many attempts failed in all.
+    pub(crate) spent: usize,
 }
 
 impl StartFilters {
@@ -57,6 +59,7 @@ impl StartFilters {
             failures: 0,
             making: MAKING,
             visits: 0,
+            spent: 0,
         }
     }
 
@@ -69,6 +72,7 @@ impl StartFilters {
         self.visits = visits;
         self.left = self.left.saturating_sub(cost);
         self.failures = self.failures.saturating_add(cost);
+        self.spent = self.spent.saturating_add(cost);
         is_first_alone || self.left == 0
     }
 

@@ -22,7 +22,7 @@ enum Kind {
 }
 
 /// Each option: its name, its letter if it has one, what is written, and what it says.
-static OPTIONS: [(&str, Option<char>, Kind, &str); 23] = [
+static OPTIONS: [(&str, Option<char>, Kind, &str); 28] = [
     (
         "fixed-strings",
         Some('F'),
@@ -70,6 +70,36 @@ static OPTIONS: [(&str, Option<char>, Kind, &str); 23] = [
         Some('l'),
         Kind::Flag,
         "Write the names of files with a selected line",
+    ),
+    (
+        "files-without-match",
+        Some('L'),
+        Kind::Flag,
+        "Write the names of files without a selected line",
+    ),
+    (
+        "quiet",
+        Some('q'),
+        Kind::Flag,
+        "Write nothing, and end at the first selected line",
+    ),
+    (
+        "no-messages",
+        Some('s'),
+        Kind::Flag,
+        "Report no files that cannot be read",
+    ),
+    (
+        "text",
+        Some('a'),
+        Kind::Flag,
+        "Search binary files as texts",
+    ),
+    (
+        "perl-regexp",
+        Some('P'),
+        Kind::Flag,
+        "Read PATTERN as it is read without this option",
     ),
     (
         "only-matching",
@@ -163,6 +193,17 @@ static OPTIONS: [(&str, Option<char>, Kind, &str); 23] = [
     ),
 ];
 
+/// The option that does not count before this one.
+fn rival(name: &str) -> Option<&'static str> {
+    if name == "files-with-matches" {
+        Some("files-without-match")
+    } else if name == "files-without-match" {
+        Some("files-with-matches")
+    } else {
+        None
+    }
+}
+
 fn argument<'a>(
     alloc: Global,
     name: &'a str,
@@ -170,11 +211,14 @@ fn argument<'a>(
     kind: Kind,
     help: &'a str,
 ) -> Result<Arg<'a>, AllocError> {
-    // Given twice, the last one counts.
-    let long = Arg::new(alloc, name)
+    // Of options that exclude each other, and of one that is given twice, the last one counts.
+    let mut long = Arg::new(alloc, name)
         .long(name)
         .help(help)
         .overrides_with(name)?;
+    if let Some(rival) = rival(name) {
+        long = long.overrides_with(rival)?;
+    }
     let word = match letter {
         Some(letter) => long.short(letter),
         None => long,

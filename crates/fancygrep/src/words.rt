@@ -55,7 +55,11 @@ fn pattern(matches: &ArgMatches<'_>) -> PatternOptions {
 
 /// Names stand before counts, and counts before matches, as grep has it.
 fn report_of(matches: &ArgMatches<'_>) -> Report {
-    if matches.get_flag("files-with-matches") {
+    if matches.get_flag("quiet") {
+        Report::Nothing
+    } else if matches.get_flag("files-without-match") {
+        Report::NameWithout
+    } else if matches.get_flag("files-with-matches") {
         Report::Name
     } else if matches.get_flag("count") {
         Report::Count
@@ -109,6 +113,8 @@ fn search_by(rt: &HostRuntime, matches: &ArgMatches<'_>) -> Result<u8, AllocErro
         has_numbers: matches.get_flag("line-number"),
         has_names: paths.len() > 1 || matches.get_flag("with-filename"),
         has_colours: has_colours(rt, matches.get_str("color")),
+        is_text: matches.get_flag("text"),
+        is_silent: matches.get_flag("no-messages"),
         context: context(matches),
         template: matches.get_str("replace"),
     };

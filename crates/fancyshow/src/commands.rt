@@ -268,7 +268,7 @@ static ARGUMENTS: [(&str, Takes, Kind, &str); 29] = [
         "ansi",
         Takes::Rules,
         Kind::Flag,
-        "Write colours for a terminal where the output is none",
+        "Write the colours of a terminal, whatever the output is",
     ),
     (
         "FILE",

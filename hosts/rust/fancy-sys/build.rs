@@ -8,7 +8,7 @@ use std::process::Command;
 const ADVICE: &str = "the library `fancy` was not found, so programs are not linked. \
 Install it by `scripts/install library`, which needs the Rattle kit once; say where to pkg-config, by \
 PKG_CONFIG_PATH=PREFIX/lib/pkgconfig, if its prefix is another than /usr/local. Or name the folder of libfancy.so or \
-libfancy.a in FANCY_LIBRARY. FANCY_STATIC=1 takes libfancy.a where both are there.";
+libfancy.a in FANCY_LIBRARY. FANCY_STATIC=1 takes libfancy.a if both are there.";
 
 fn main() {
     println!("cargo:rerun-if-changed=build.rs");

@@ -1,4 +1,4 @@
-//! Why there is no answer.
+//! Why a call has no result.
 
 use fancy_sys as sys;
 use std::fmt;
@@ -130,9 +130,9 @@ impl Error {
         match CompileError::of(outcome, explain) {
             Some(refusal) => refusal.into(),
             None if outcome.code == sys::FANCY_MEMORY => Error::Memory,
-            // The crate hands in text that is UTF-8, options of this size, and places that it checked.
+            // The crate passes text that is UTF-8, options of this size, and positions that it checked.
             None => unreachable!(
-                "the library answers code {}: is it of the version of this crate?",
+                "the library returns code {}: is it of the version of this crate?",
                 outcome.code
             ),
         }
@@ -166,21 +166,27 @@ impl ParseError {
     fn text(self) -> &'static str {
         match self {
             ParseError::GeneralParseError => "this cannot be read",
-            ParseError::UnclosedOpenParen => "a parenthesis is not closed",
+            ParseError::UnclosedOpenParen => "a parenthesis is not closed: expected `)`",
             ParseError::UnopenedCloseParen => "this `)` closes no parenthesis",
-            ParseError::InvalidRepeat => "the counts of a loop are out of order or too large",
-            ParseError::RecursionExceeded => "the pattern nests too deeply",
-            ParseError::TrailingBackslash => "a backslash ends the pattern",
+            ParseError::InvalidRepeat => "the counts of a repetition are out of order or too large",
+            ParseError::RecursionExceeded => "parentheses nest deeper than the limit",
+            ParseError::TrailingBackslash => {
+                "the pattern ends with a backslash: expected a character after it"
+            }
             ParseError::InvalidEscape => "there is no escape with this letter",
             ParseError::UnclosedUnicodeName => "a property has no name, or its `}` is missing",
-            ParseError::InvalidHex => "a hexadecimal digit or a `}` is missing",
+            ParseError::InvalidHex => {
+                "expected a hexadecimal digit, or `}` after one to eight of them"
+            }
             ParseError::InvalidCodepointValue => "there is no character with this number",
-            ParseError::InvalidClass => "a class is not closed",
-            ParseError::UnknownFlag => "no flag stands here",
+            ParseError::InvalidClass => "a class is not closed: expected `]`",
+            ParseError::UnknownFlag => "this is not a flag: expected one of `imsxRUu`",
             ParseError::NonUnicodeUnsupported => "the flag `u` cannot be cleared",
             ParseError::InvalidBackref => "the number of a group is too large",
             ParseError::TargetNotRepeatable => "there is nothing to repeat before this quantifier",
-            ParseError::InvalidGroupName => "this names no group",
+            ParseError::InvalidGroupName => {
+                "this is not a group name: expected a letter, `_` or a number, and then what closes it"
+            }
             ParseError::InvalidGroupNameBackref => {
                 "several groups have this name, so it cannot be called, or more than 100 have it, so it cannot be referred to"
             }
@@ -254,21 +260,27 @@ impl fmt::Display for CompileError {
             | CompileError::LeftRecursiveSubroutineCall(message) => message,
             CompileError::InvalidBackref(group) => return write!(f, "there is no group {group}"),
             CompileError::InvalidGroupNameBackref(name) => {
-                return write!(f, "no group is named {name}")
+                return write!(f, "there is no group named '{name}'")
             }
             CompileError::NamedBackrefOnly => {
                 "groups have names here, and one is referred to by its number"
             }
             CompileError::FeatureNotYetSupported => "this feature is not supported",
-            CompileError::SubroutineCallTargetNotFound => "a group is called that is not there",
-            CompileError::UnresolvedAstNode => "a group is referred to by a name that no group has",
-            CompileError::NeverEndingRecursion => "a recursion never ends",
-            CompileError::VariableLookBehindRequiresFeature => "a look-behind has no constant size",
-            CompileError::PatternTooComplex => {
-                "the program of the pattern has too many instructions"
+            CompileError::SubroutineCallTargetNotFound => "a call names a group that is not there",
+            CompileError::UnresolvedAstNode => "a reference has a name that no group has",
+            CompileError::NeverEndingRecursion => "the calls never end",
+            CompileError::VariableLookBehindRequiresFeature => {
+                "a look-behind matches texts of several lengths"
             }
-            CompileError::NestLimitExceeded => "the pattern nests deeper than the limit",
-            CompileError::AnalysisLimitExceeded => "the analysis of the pattern exceeds its limit",
+            CompileError::PatternTooComplex => {
+                "the program of the pattern has more instructions than max_prog_size"
+            }
+            CompileError::NestLimitExceeded => {
+                "the pattern, with calls written out, nests deeper than max_nesting"
+            }
+            CompileError::AnalysisLimitExceeded => {
+                "the analysis of the pattern exceeds analysis_limit"
+            }
         };
         f.write_str(text)
     }
@@ -277,11 +289,11 @@ impl fmt::Display for CompileError {
 impl fmt::Display for RuntimeError {
     fn fmt(&self, f: &mut fmt::Formatter<'_>) -> fmt::Result {
         f.write_str(match self {
-            RuntimeError::StackOverflow => "too many branches are held",
-            RuntimeError::BacktrackLimitExceeded => "the limit of backtracks was passed",
-            RuntimeError::StepLimitExceeded => "the limit of steps was passed",
-            RuntimeError::VisitLimitExceeded => "the limit of visits was passed",
-            RuntimeError::MemoryLimitExceeded => "the limit of memory was passed",
+            RuntimeError::StackOverflow => "the search exceeds the limit of 1,000,000 branches",
+            RuntimeError::BacktrackLimitExceeded => "the search exceeds the backtrack limit",
+            RuntimeError::StepLimitExceeded => "the search exceeds the step limit",
+            RuntimeError::VisitLimitExceeded => "the search exceeds the visit limit",
+            RuntimeError::MemoryLimitExceeded => "the search exceeds the memory limit",
         })
     }
 }

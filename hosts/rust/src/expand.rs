@@ -32,7 +32,7 @@ enum Part<'t> {
     Text(&'t str),
     Name(&'t str),
     Number(usize),
-    /// A mark that begins no reference, and stands for itself.
+    /// A mark that begins no reference, and is written as it is.
     Stray(&'t str),
 }
 
@@ -81,7 +81,7 @@ impl Expander {
         })
     }
 
-    /// The template that writes a text as it stands.
+    /// The template that writes a text as it is.
     ///
     /// ```
     /// assert_eq!(fancy::Expander::default().escape("5 $"), "5 $$");
@@ -133,17 +133,17 @@ impl Expander {
 
     /// The first part of what is left of a template, and its length in bytes.
     fn first_part<'t>(&self, rest: &'t str) -> Option<(Part<'t>, usize)> {
-        let Some(behind) = rest.strip_prefix(self.mark) else {
+        let Some(after) = rest.strip_prefix(self.mark) else {
             let length = rest.find(self.mark).unwrap_or(rest.len());
             return (length > 0).then(|| (Part::Text(&rest[..length]), length));
         };
         let mark = self.mark.len_utf8();
-        if behind.starts_with(self.mark) {
+        if after.starts_with(self.mark) {
             return Some((Part::Text(&rest[..mark]), 2 * mark));
         }
         let (part, length) = self
-            .name(behind)
-            .or_else(|| number(behind))
+            .name(after)
+            .or_else(|| number(after))
             .unwrap_or((Part::Stray(&rest[..mark]), 0));
         Some((part, mark + length))
     }

@@ -16,7 +16,7 @@ use std::sync::Arc;
 
 /// A pattern that was compiled.
 ///
-/// Threads may share it: each search takes a program of its own from a pool, and a copy where all are in use. Copies share
+/// Threads may share it: each search takes a program of its own from a pool, and a copy if all are in use. Copies share
 /// what was compiled. A clone shares the pool.
 ///
 /// ```
@@ -354,7 +354,7 @@ impl Regex {
     }
 }
 
-/// The text with what is written for its first `limit` matches, or all for 0, in their places; the text itself if there are
+/// The text with its first `limit` matches replaced, or all of them if `limit` is 0; the text itself if there are
 /// none.
 fn rewritten<'t, T>(
     text: &'t str,

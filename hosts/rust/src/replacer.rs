@@ -49,7 +49,7 @@ impl<R: Replacer + ?Sized> Replacer for ReplacerRef<'_, R> {
     }
 }
 
-/// A text that replaces each match as it stands: a `$` in it is a dollar.
+/// A text that replaces each match as it is: a `$` in it is a dollar.
 ///
 /// ```
 /// # fn main() -> fancy::Result<()> {
@@ -72,7 +72,7 @@ impl Replacer for NoExpand<'_> {
     }
 }
 
-/// A template in which no group stands.
+/// A template without references to groups.
 fn fixed<T: AsRef<str>>(template: &T) -> Option<Cow<'_, str>> {
     let template = template.as_ref();
     (!template.contains('$')).then_some(Cow::Borrowed(template))

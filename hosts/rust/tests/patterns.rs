@@ -342,7 +342,7 @@ const CHOICES: &str = "(?:a|ab)(?:c|bcd)";
 fn limits_of_visits_and_memory() {
     let visits = RegexBuilder::new(CHOICES).visit_limit(1).build().unwrap();
     let passed = Error::RuntimeError(RuntimeError::VisitLimitExceeded);
-    assert_eq!(passed.to_string(), "the limit of visits was passed");
+    assert_eq!(passed.to_string(), "the search exceeds the visit limit");
     assert_eq!(visits.is_match("xabcd").unwrap_err(), passed);
     assert_eq!(visits.find("xabcd").unwrap_err(), passed);
     assert_eq!(
@@ -352,7 +352,7 @@ fn limits_of_visits_and_memory() {
     assert_eq!(visits.try_replacen("xabcd", 0, "").unwrap_err(), passed);
     let memory = RegexBuilder::new(CHOICES).memory_limit(1).build().unwrap();
     let passed = Error::RuntimeError(RuntimeError::MemoryLimitExceeded);
-    assert_eq!(passed.to_string(), "the limit of memory was passed");
+    assert_eq!(passed.to_string(), "the search exceeds the memory limit");
     assert_eq!(memory.find("xabcd").unwrap_err(), passed);
     // 0 is no limit, and the defaults are not passed
     let unlimited = RegexBuilder::new(CHOICES)
@@ -376,10 +376,15 @@ fn limits_of_analysis() {
     assert_eq!(build(31).unwrap_err(), passed);
     assert_eq!(
         passed.to_string(),
-        "the analysis of the pattern exceeds its limit"
+        "the analysis of the pattern exceeds analysis_limit"
     );
     // at the limit, without one, and by default
-    for regex in [build(32), build(0), build(usize::MAX), Regex::new(LOOKED_AT)] {
+    for regex in [
+        build(32),
+        build(0),
+        build(usize::MAX),
+        Regex::new(LOOKED_AT),
+    ] {
         assert_eq!(
             regex.unwrap().find("xababa").unwrap().unwrap().range(),
             1..6

@@ -66,7 +66,7 @@ pub struct FancyOptions {
     pub reserved: [u64; 1],
 }
 
-/// What a call answers.
+/// What a call returns.
 #[repr(C)]
 #[derive(Clone, Copy, Debug, PartialEq, Eq)]
 pub struct FancyOutcome {
@@ -77,7 +77,7 @@ pub struct FancyOutcome {
     pub next: usize,
 }
 
-/// Where a list of all matches stands.
+/// How far a list of all matches has come.
 #[repr(C)]
 #[derive(Clone, Copy, Debug, PartialEq, Eq)]
 pub struct FancyStanding {

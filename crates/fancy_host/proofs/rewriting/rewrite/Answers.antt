@@ -4,7 +4,7 @@ use Rattle.fancy_laws.proofs.Characters.{cut_of_place}
 use Rattle.fancy_meaning.specs.Numbers.{usize_max}
 use Rattle.fancy_meaning.specs.Places.{is_place}
 use Rattle.fancy_meaning.specs.Premises.{IsText}
-use Rattle.fancy_vm.specs.Scratches.{passed_of}
+use Rattle.fancy_search.specs.Scratches.{passed_of}
 use Rattle.fancy_steps.specs.Tasks.{options_of as run_options_of}
 use Rattle.fancy_matches.specs.Regexes.{captures_text, numbers_in, standing_of}
 use Rattle.fancy_host.proofs.LimitsPassed.{stays_so}
@@ -21,7 +21,7 @@ loop-count-init g c =
         (
           at_first c.args.compiled.now text (run_options_of c.args.options.now) c.args.limit (g.R.Replacer.replacement_text c.args.replacement.now)
               (record { utf8 = c.utf8.text; fits = small }) [] refl (standing_of c.first-standing.result) c.first-standing.ensures,
-          (c.requires.passed, refl),
+          (c.requires.passed, (refl, c.requires.suits)),
         ),
       ),
     )
@@ -118,7 +118,7 @@ loop-count-preserved g c =
           (
             stays_so c.next_found.result (Ok (Some x)) (passed_of c.next_found.new.scratch)
                 (c.in_ok-next_found.was ∙ ap Ok c.in-Some.is) (c.next_found.ensures.stays l.invariant.1.1.1.0),
-            c.next_found.ensures.limits ∙ l.invariant.1.1.1.1,
+            (c.next_found.ensures.limits ∙ l.invariant.1.1.1.1.0, c.next_found.ensures.suits),
           ),
         ),
       ),
@@ -159,3 +159,6 @@ returns-in-None-clause-stays g c =
 
 pub returns-clause-stays : goal.returns-clause-stays
 returns-clause-stays g c = c.loop-count.invariant.1.1.1.0
+
+pub returns-clause-suits : goal.returns-clause-suits
+returns-clause-suits g c = c.loop-count.invariant.1.1.1.1.1

@@ -1,5 +1,5 @@
 use Rattle.std.proofs.Common.{◌≡◌, ℕ, List, None}
-use Rattle.fancy_vm.specs.Scratches.{limits_of, passed_of}
+use Rattle.fancy_search.specs.Scratches.{Suits, limits_of, passed_of}
 use Rattle.fancy_steps.specs.Tasks.{options_of as run_options_of}
 use Rattle.fancy_matches.specs.Regexes.{standing_of}
 use Rattle.fancy_replace.specs.Outputs.{Holds}
@@ -11,4 +11,4 @@ invariant-loop-count g l =
     (out : List ℕ) × (Holds l.out l.room out
     × (GoesOn l.compiled l.text (run_options_of l.options) l.limit (g.R.Replacer.replacement_text l.replacement) l.count
     (standing_of l.standing) l.from out
-    × ((passed_of l.scratch ≡ None) × (limits_of l.scratch ≡ limits_of l.fn.scratch))))
+    × ((passed_of l.scratch ≡ None) × ((limits_of l.scratch ≡ limits_of l.fn.scratch) × Suits l.compiled l.scratch))))

@@ -17,6 +17,7 @@ searches-init g c = record {
   goes = at_first c.args.compiled.now c.args.text.now (run_options_of c.args.options.now) (standing_of c.args.standing.now);
   limits = refl;
   stays = λ none. none;
+  suits = c.requires.suits;
 }
 
 pub search-requires : goal.search-requires
@@ -30,7 +31,7 @@ search-requires g c k =
     let small : length text < usize_max = omega arith in
     let is : IsText text = record { utf8 = c.utf8.text; fits = small } in
     let here = c.options-here.result in
-    ((refl, tt), (search_fits compiled text is base here from st at c.options-here.ensures c.requires.fits, c.requires.source))
+    ((refl, tt), (search_fits compiled text is base here from st at c.options-here.ensures c.requires.fits, (c.requires.source, c.searches.invariant.suits)))
 
 pub returns-in_err-search-clause-steps : goal.returns-in_err-search-clause-steps
 returns-in_err-search-clause-steps g c =
@@ -153,6 +154,7 @@ searches-preserved g c =
           (Ok (Some c.in-Some.found)) found c.in-Some.found (form.span c.in-Some.found) spans refl tells further);
       limits = c.in_ok-search.ensures.limits ∙ c.searches.invariant.limits;
       stays = λ none. c.in_ok-search.ensures.stays;
+      suits = c.in_ok-search.ensures.suits;
     }
 
 pub returns-in_err-search-clause-limits : goal.returns-in_err-search-clause-limits

@@ -1,5 +1,5 @@
 use Rattle.std.proofs.Common.{◌≡◌, ◌-◌, None, suc, length}
-use Rattle.fancy_vm.specs.Scratches.{limits_of, passed_of}
+use Rattle.fancy_search.specs.Scratches.{Suits, limits_of, passed_of}
 use Rattle.fancy_steps.specs.Tasks.{options_of as run_options_of}
 use Rattle.fancy_matches.specs.Regexes.{standing_of}
 use Rattle.fancy_matches.proofs.Stepping.{GoesOn}
@@ -10,6 +10,7 @@ invariant-searches g l = record {
   goes : GoesOn l.compiled l.text (run_options_of l.options) (standing_of l.fn.standing) (standing_of l.standing);
   limits : limits_of l.scratch ≡ limits_of l.fn.scratch;
   stays : passed_of l.fn.scratch ≡ None → passed_of l.scratch ≡ None;
+  suits : Suits l.compiled l.scratch;
 }
 
 abbrev pub decreases-searches : goal.decreases-searches

@@ -1,14 +1,13 @@
-use Rattle.std.proofs.Common.{◌≡◌, slice_get, Option, Some, None, IfSome, refl, sym, ap, ◌∙◌, subst, arith, map, [], ◌<◌, length}
+use Rattle.std.proofs.Common.{◌≡◌, slice_get, Option, Some, None, refl, sym, ap, ◌∙◌, subst, arith, map, [], ◌<◌, length}
 use Rattle.fancy_nfa.specs.FirstWays.{spans_of}
 use Rattle.fancy_backtrack.specs.Paths.{closed_after}
-use Rattle.fancy_plain.specs.FoundEnds.{ChoicesEndAt}
 use Rattle.fancy_plain.specs.Views.{state_of}
 use Rattle.fancy_meaning.specs.Premises.{IsText}
 use Rattle.fancy_meaning.specs.Numbers.{usize_max}
 use Rattle.fancy_plain.specs.declared.first_way.FirstWay.{FirstWay}
 use Rattle.fancy_plain.specs.BranchTables.{AreTables}
 use Rattle.fancy_plain.specs.declared.first_way.Way.{Way}
-use Rattle.fancy_plain.proofs.FirstWayLaws.{Ended, counted, end_found, end_refused, first_found, first_none, memo_found, way_leads}
+use Rattle.fancy_plain.proofs.FirstWayLaws.{Ended, counted, end_found, end_refused, first_found, first_none, memo_found}
 use Rattle.fancy_plain.proofs.ReadStates.{states_read}
 use Rattle.fancy_plain.proofs.first_way.first_way_with.Goals as goal
 use Rattle.fancy_plain.proofs.first_way.first_way_with.Goals.{in-Some+in_ok-spans-in-Some, in-None}
@@ -83,21 +82,3 @@ returns-clause-visits c = λ failed have.
     c.requires.place c.requires.memo c.start.ensures.failed c.start.ensures.path c.start.ensures.frames c.start.ensures.visits c.in_ok-found.found c.find.new.m
     c.in_ok-found.ensures.ends failed have in
     (e.steps, (e.way, (e.found, (e.ends, c.visits-visits.ensures ∙ e.visits))))
-
-pub returns-clause-choices : goal.returns-clause-choices
-returns-clause-choices c =
-    let text = c.args.text.now in
-    let f = c.args.nfa.now in
-    let n = c.find.new.m in
-    let small : length c.args.text.now < usize_max = omega arith in
-    let is_text : IsText c.args.text.now = record { utf8 = c.utf8.text; fits = small } in
-    let leads : Option Way → Type 0 = λ o. IfSome o (λ w. w.spans.items ≡ [] → ChoicesEndAt text f n w.end) in
-    elim c.match-found.branch [
-      | in-Some+in_ok-spans-in-Some w ↦
-          subst leads (sym w.way'-is)
-          (way_leads c.deref.result c.args.text f c.args.ix c.args.memo.now c.start.new.self c.deref.ensures.value is_text c.requires.place
-          c.requires.memo c.start.ensures.failed c.start.ensures.path c.start.ensures.frames c.start.ensures.visits c.in_ok-found.found w.in-Some.config n
-          c.in_ok-found.ensures.ends w.in-Some.is (record { end = w.in-Some.config.place; spans = w.in_ok-spans-in-Some.field-0 }) refl
-          (λ g. w.in_ok-spans-in-Some.ensures.listed g ∙ ap (λ entries. spans_of (closed_after [] entries) g) w.path.ensures))
-      | in-None w ↦ subst leads (sym w.way'-is) tt
-    ]

@@ -3,8 +3,8 @@ use Rattle.fancy_search.specs.Searches.{input_of}
 use Rattle.fancy_search.proofs.Searched.{made_within, may_run, promised_within, refusal_made_within, refusal_promises}
 use Rattle.fancy_search.proofs.search.search.Goals as goal
 
-pub search-requires : goal.search-requires
-search-requires c =
+pub search-requires-clause-fits : goal.search-requires-clause-fits
+search-requires-clause-fits c =
     may_run c.args.options.now c.args.tree.now c.in_ok-compiled.compiled c.args.text.now c.requires.fits c.in_ok-compiled.ensures.made
 
 pub returns-in_err-compiled-clause-promise : goal.returns-in_err-compiled-clause-promise

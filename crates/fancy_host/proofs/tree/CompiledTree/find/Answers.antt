@@ -27,3 +27,6 @@ returns c =
     (answered (fits_by (compiled_of s) text o _ c.running-running.ensures (sym c.fits.ensures ∙ c.if-not-fits.false)) answer
     (promised_by (compiled_of s) text o _ c.running-running.ensures answer c.search-answer.ensures.promise c.search-answer.ensures.bounds)
     (subst (StaysWithin answer) is c.search-answer.ensures.stays)))
+
+pub search-answer-requires-clause-suits : goal.search-answer-requires-clause-suits
+search-answer-requires-clause-suits c = c.limit.ensures.suits _ (c.forget_engine.ensures.suits _)

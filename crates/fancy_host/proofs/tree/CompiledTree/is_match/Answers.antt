@@ -25,3 +25,6 @@ returns c =
     (told (fits_by (compiled_of s) text o _ c.running-running.ensures (sym c.fits.ensures ∙ c.if-not-fits.false)) answer
     (promised_by (compiled_of s) text o _ c.running-running.ensures answer c.search-found.ensures.promise c.search-found.ensures.bounds)
     (subst (StaysWithin answer) is c.search-found.ensures.stays))
+
+pub search-found-requires-clause-suits : goal.search-found-requires-clause-suits
+search-found-requires-clause-suits c = c.limit.ensures.suits _ (c.forget_engine.ensures.suits _)

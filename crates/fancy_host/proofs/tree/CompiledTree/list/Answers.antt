@@ -2,7 +2,7 @@ use Rattle.std.proofs.Common.{◌≡◌, false, true, [], refl, sym, ◌∙◌, 
 use Rattle.fancy_meaning.specs.Fits.{run_fits}
 use Rattle.fancy_program.specs.Programs.{prog_of}
 use Rattle.fancy_search.specs.Searches.{program}
-use Rattle.fancy_vm.specs.Scratches.{passed_of}
+use Rattle.fancy_search.specs.Scratches.{passed_of}
 use Rattle.fancy_matches.specs.Regexes as matches
 use Rattle.fancy_host.specs.Hosted.{compiled_of, passed_in}
 use Rattle.fancy_host.specs.Lists.{Lists, Writes, does_not_fit, listed, listing, standing_of, width_of}
@@ -23,7 +23,7 @@ returns-then-not-fits g c =
     (subst (λ r. run_fits (record { program = prog_of (program (compiled_of s)); text = []; options = r }) ≡ false) c.listing-listing.ensures no))
 
 pub write_rows-outcome-requires : goal.write_rows-outcome-requires
-write_rows-outcome-requires g c k = ((refl, tt), (sym c.fits.ensures ∙ c.if-not-fits.false, (c.requires, c.limit.ensures.passed)))
+write_rows-outcome-requires g c k = ((refl, tt), (sym c.fits.ensures ∙ c.if-not-fits.false, (c.requires, (c.limit.ensures.passed, c.limit.ensures.suits _ (c.forget_engine.ensures.suits _)))))
 
 pub returns : goal.returns
 returns g c =

@@ -59,3 +59,6 @@ returns-in-Err c =
 
 pub replaced-requires-clause-passed : goal.replaced-requires-clause-passed
 replaced-requires-clause-passed c = c.limit.ensures.passed
+
+pub replaced-requires-clause-suits : goal.replaced-requires-clause-suits
+replaced-requires-clause-suits c = c.limit.ensures.suits _ (c.forget_engine.ensures.suits _)

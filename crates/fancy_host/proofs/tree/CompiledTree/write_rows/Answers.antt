@@ -1,7 +1,7 @@
 use Rattle.std.proofs.Common.{◌<◌, length, Some, None, Ok, Err, refl, ap, ◌∙◌, arith}
 use Rattle.fancy_meaning.specs.Numbers.{usize_max}
 use Rattle.fancy_meaning.specs.Premises.{IsText}
-use Rattle.fancy_vm.specs.Scratches.{passed_of}
+use Rattle.fancy_search.specs.Scratches.{passed_of}
 use Rattle.fancy_steps.specs.Tasks.{options_of as run_options_of}
 use Rattle.fancy_matches.specs.Regexes.{standing_of}
 use Rattle.fancy_host.specs.Codes.{no_match, ok}
@@ -18,6 +18,7 @@ rows-init g c = (
   refl,
   c.requires.passed,
   refl,
+  c.requires.suits,
 )
 
 pub returns-in-Ok-None-clause-writes : goal.returns-in-Ok-None-clause-writes
@@ -102,6 +103,7 @@ rows-preserved g c =
       omega (arith, same),
       stays_so c.next_found.result (Ok (Some found)) (passed_of c.next_found.new.scratch) was (c.next_found.ensures.stays l.invariant.2),
       c.next_found.ensures.limits ∙ l.invariant.3,
+      c.next_found.ensures.suits,
     )
 
 pub returns-clause-writes : goal.returns-clause-writes
@@ -129,3 +131,6 @@ returns-in-Err-clause-limits g c = c.next_found.ensures.limits ∙ c.rows.invari
 
 pub returns-clause-limits : goal.returns-clause-limits
 returns-clause-limits g c = c.rows.invariant.3
+
+pub returns-clause-suits : goal.returns-clause-suits
+returns-clause-suits g c = c.rows.invariant.4

@@ -1,5 +1,5 @@
 use Rattle.std.proofs.Common.{◌≡◌, ◌-◌, None, length}
-use Rattle.fancy_vm.specs.Scratches.{limits_of, passed_of}
+use Rattle.fancy_search.specs.Scratches.{Suits, limits_of, passed_of}
 use Rattle.fancy_steps.specs.Tasks.{options_of as run_options_of}
 use Rattle.fancy_matches.specs.Regexes.{standing_of}
 use Rattle.fancy_host.specs.Hosted.{compiled_of}
@@ -13,6 +13,7 @@ invariant-rows g l =
     × (length l.room ≡ length l.fn.room)
     × (passed_of l.scratch ≡ None)
     × (limits_of l.scratch ≡ limits_of l.fn.scratch)
+    × Suits (compiled_of l.self) l.scratch
 
 abbrev pub decreases-rows : goal.decreases-rows
 decreases-rows g l = length l.room - l.at

@@ -1,8 +1,9 @@
 use Rattle.std.proofs.Common.{◌≡◌, ◌∙◌, [], true, ap, option_map, refl, subst, sym}
 use Rattle.fancy_meaning.specs.Fits.{run_fits}
+use Rattle.fancy_search.specs.Scratches.{Suits}
 use Rattle.fancy_search.specs.Searches.{HasSource, IsCompiledFrom, program}
 use Rattle.fancy_matches.specs.Listing.{begun_at}
-use Rattle.fancy_matches.specs.Regexes.{Shows}
+use Rattle.fancy_matches.specs.Regexes.{Shows, compiled_of}
 use Rattle.fancy_steps.specs.Tasks.{options_of as run_options_of, task_of}
 use Rattle.fancy_matches.proofs.Easy.{easy_search}
 use Rattle.fancy_matches.proofs.Searching.{fits_begun}
@@ -17,7 +18,11 @@ search-requires g c k =
       (
         fits_begun (program c.deref.result.now) regex.options.run c.begun_at-options.result regex.options.backtrack_limit c.args.text.now c.args.pos fits
             c.requires c.begun_at-options.ensures,
-        subst HasSource (sym c.deref.ensures) regex.source,
+        (
+          subst HasSource (sym c.deref.ensures) regex.source,
+          subst (λ k. Suits k c.limit.new.self) (sym c.deref.ensures)
+              (c.limit.ensures.suits (compiled_of regex) regex.suits),
+        ),
       ),
     )
 

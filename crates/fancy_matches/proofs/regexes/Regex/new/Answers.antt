@@ -12,6 +12,7 @@ invariant_of-result c =
     rw c.in_ok-new.ensures.ok (record {
       fits = may_run options c.args.tree.now c.in_ok-compiled.compiled [] c.requires.fits from;
       source = ∣ (input_of c.args.tree.now options.analysis options.compilation, from) ∣₁;
+      suits = c.new-3.ensures.suits _;
     })
 
 pub crosses_threads-requires-send-T : goal.crosses_threads-requires-send-T

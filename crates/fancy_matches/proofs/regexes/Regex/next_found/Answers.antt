@@ -3,9 +3,9 @@ use Rattle.fancy_meaning.specs.Fits.{run_fits}
 use Rattle.fancy_meaning.specs.Numbers.{usize_max}
 use Rattle.fancy_search.specs.Searches.{HasSource, program}
 use Rattle.fancy_steps.specs.SearchLimits.{StaysWithin, passed_by}
-use Rattle.fancy_vm.specs.Scratches.{cost_of}
+use Rattle.fancy_search.specs.Scratches.{Suits, cost_of}
 use Rattle.fancy_steps.specs.Tasks.{options_of as run_options_of, task_of}
-use Rattle.fancy_matches.specs.Regexes.{GivesBy, standing_of}
+use Rattle.fancy_matches.specs.Regexes.{GivesBy, compiled_of, standing_of}
 use Rattle.fancy_matches.proofs.Searching.{fits_listed}
 use Rattle.fancy_matches.proofs.Stepping.{easy_step, error_within, gives_error, gives_none, gives_some, stays_limited}
 use Rattle.fancy_matches.proofs.regexes.Regex.next_found.Goals as goal
@@ -69,7 +69,11 @@ next_found-requires g c k =
       (
         fits_listed (program c.deref.result.now) regex.options.run c.for_text-options.result regex.options.backtrack_limit c.args.text.now fits
             c.for_text-options.ensures,
-        subst HasSource (sym c.deref.ensures) regex.source,
+        (
+          subst HasSource (sym c.deref.ensures) regex.source,
+          subst (λ k. Suits k c.limit.new.self) (sym c.deref.ensures)
+              (c.limit.ensures.suits (compiled_of regex) regex.suits),
+        ),
       ),
     )
 

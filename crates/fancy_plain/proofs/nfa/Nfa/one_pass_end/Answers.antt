@@ -5,8 +5,8 @@ use Rattle.fancy_plain.proofs.ReadStates.{states_read}
 use Rattle.fancy_plain.proofs.OnePassLaws.{one_pass_answered}
 use Rattle.fancy_plain.proofs.nfa.Nfa.one_pass_end.Goals as goal
 
-pub walk_surely-requires : goal.walk_surely-requires
-walk_surely-requires c = λ i p at.
+pub walk-requires : goal.walk-requires
+walk-requires c = λ i p at.
     states_read c.args.self.now c.requires.nodes i p (ap (λ l. slice_get l i) (sym c.deref.ensures.value) ∙ at)
 
 pub returns : goal.returns
@@ -14,4 +14,4 @@ returns c =
     let small : length c.args.text.now < usize_max = omega arith in
     let is_text : IsText c.args.text.now = record { utf8 = c.utf8.text; fits = small } in
     one_pass_answered c.deref.result c.args.text c.args.self.now c.args.ix c.deref.ensures.value is_text c.requires.place
-    c.walk_surely.result c.walk_surely.ensures
+    c.walk.result c.walk.ensures

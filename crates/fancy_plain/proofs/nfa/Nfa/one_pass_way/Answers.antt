@@ -5,8 +5,8 @@ use Rattle.fancy_plain.proofs.ReadStates.{states_read}
 use Rattle.fancy_plain.proofs.OnePassLaws.{one_pass_way_answered, way_of_none}
 use Rattle.fancy_plain.proofs.nfa.Nfa.one_pass_way.Goals as goal
 
-pub walk_groups_surely-requires-clause-searcher : goal.walk_groups_surely-requires-clause-searcher
-walk_groups_surely-requires-clause-searcher c = λ i p at.
+pub walk_groups-requires-clause-searcher : goal.walk_groups-requires-clause-searcher
+walk_groups-requires-clause-searcher c = λ i p at.
     states_read c.args.self.now c.requires.nodes i p (ap (λ l. slice_get l i) (sym c.deref.ensures.value) ∙ at)
 
 pub returns-then-self : goal.returns-then-self
@@ -18,4 +18,4 @@ returns c =
     let small : length c.args.text.now < usize_max = omega arith in
     let is_text : IsText c.args.text.now = record { utf8 = c.utf8.text; fits = small } in
     one_pass_way_answered c.deref.result c.args.text c.args.self.now c.args.ix c.deref.ensures.value is_text c.requires.place
-    c.walk_groups_surely.new.groups c.walk_groups_surely.result c.walk_groups_surely.ensures
+    c.walk_groups.new.groups c.walk_groups.result c.walk_groups.ensures

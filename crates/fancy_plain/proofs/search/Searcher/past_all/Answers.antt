@@ -18,8 +18,7 @@ run-preserved c =
     let further = c.past_ascii-place-in-Some.ensures.further in
     let before = c.run.invariant.0 in (
       omega (arith, before, over, further),
-      runs_both searcher test from next end (omega (arith, before, over)) further
-          (runs_further searcher test from place next before c.run.invariant.1 past) c.past_ascii-place-in-Some.ensures.on,
+      runs_both searcher test from next end (runs_further searcher test from place next c.run.invariant.1 past) c.past_ascii-place-in-Some.ensures.on,
     )
 
 pub returns : goal.returns

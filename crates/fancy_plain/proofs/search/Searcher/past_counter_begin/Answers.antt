@@ -9,26 +9,15 @@ use Rattle.fancy_plain.proofs.search.Searcher.past_counter_begin.Goals as goal
 pub past_at_most-requires : goal.past_at_most-requires
 past_at_most-requires c = body_read c.args.self.now (c.args.enter + 1) (c.args.enter + 1 + 1) c.in-Some.test.now c.requires.searcher c.in-Some.ensures.body
 
-pub returns-clause-comes : goal.returns-clause-comes
-returns-clause-comes c =
+pub returns : goal.returns
+returns c =
     let searcher = c.args.self.now in
     let states = searcher.states.now in
     let head = c.args.enter + 1 in
     let found = c.in-Some-CounterLoop.ensures.lookup in
     let there = slice_get_read states (length states) head c.in-Some-CounterLoop.field-0.now refl (ltb-true head (length states) (sym found.0)) found.1
     ∙ ap Some c.in-Some-CounterLoop.field-0-is in
-    c.behind_counter.ensures.comes searcher c.args.enter c.args.place c.in-Some.test.now
-    (c.requires.at, there, c.in-Some.ensures.body, c.in-Some.ensures.greedy, c.in-Some.ensures.asks) c.in_ok-end.ensures (omega arith)
-
-pub returns-clause-sure : goal.returns-clause-sure
-returns-clause-sure c =
-    let searcher = c.args.self.now in
-    let states = searcher.states.now in
-    let head = c.args.enter + 1 in
-    let found = c.in-Some-CounterLoop.ensures.lookup in
-    let there = slice_get_read states (length states) head c.in-Some-CounterLoop.field-0.now refl (ltb-true head (length states) (sym found.0)) found.1
-    ∙ ap Some c.in-Some-CounterLoop.field-0-is in
-    c.behind_counter.ensures.sure searcher c.args.enter c.args.place c.in-Some.test.now
+    c.behind_counter.ensures searcher c.args.enter c.args.place c.in-Some.test.now
     (c.requires.at, there, c.in-Some.ensures.body, c.in-Some.ensures.greedy, c.in-Some.ensures.asks) c.in_ok-end.ensures (omega arith)
 
 pub overflow_add-head : goal.overflow_add-head

@@ -1,4 +1,4 @@
-use Rattle.std.proofs.Common.{◌+◌, true≢false, false, Some, length, refl, sym, ap, ◌∙◌, subst, if◌then◌else◌}
+use Rattle.std.proofs.Common.{◌+◌, false, Some, length, refl, sym, ap, ◌∙◌, subst, if◌then◌else◌}
 use Rattle.std.proofs.lemmas.Bool.{ltb-true}
 use Rattle.std.proofs.lemmas.Option.{slice_get_read}
 use Rattle.fancy_nfa.specs.NfaSearch as plain
@@ -90,21 +90,10 @@ returns-in-Some-body_at c = λ s.
     let found = c.in-Some-LoopSplit.ensures.lookup in
     let there = slice_get_read states (length states) at c.in-Some-LoopSplit.field-0.now refl (ltb-true at (length states) (sym found.0)) found.1
     ∙ ap Some c.in-Some-LoopSplit.field-0-is in
-    c.in_ok-end-in-Some-LoopSplit.ensures s at c.in-Some-LoopSplit.first c.in-Some-LoopSplit.second there c.in-Some-body_at.ensures false
-    (λ e. absurd (true≢false (sym e)))
+    c.in_ok-end-in-Some-LoopSplit.ensures s at c.in-Some-LoopSplit.first c.in-Some-LoopSplit.second there c.in-Some-body_at.ensures
 
-pub returns-then-end-place : goal.returns-then-end-place
-returns-then-end-place c = λ s.
-    let searcher = c.args.self.now in
-    let states = searcher.states.now in
-    let at = c.args.at in
-    let found = c.in-Some-LoopSplit.ensures.lookup in
-    let there = slice_get_read states (length states) at c.in-Some-LoopSplit.field-0.now refl (ltb-true at (length states) (sym found.0)) found.1
-    ∙ ap Some c.in-Some-LoopSplit.field-0-is in
-    c.past_branches-end.ensures.on s c.in-Some-LoopSplit.second there
-
-pub returns-else-end-place : goal.returns-else-end-place
-returns-else-end-place c = λ s.
+pub returns-in_default-body_at : goal.returns-in_default-body_at
+returns-in_default-body_at c = λ s.
     let searcher = c.args.self.now in
     let states = searcher.states.now in
     let at = c.args.at in

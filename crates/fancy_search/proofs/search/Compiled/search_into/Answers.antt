@@ -1,25 +1,30 @@
-use Rattle.std.proofs.Common.{refl}
-use Rattle.fancy_steps.specs.Outcomes.{answer_in}
-use Rattle.fancy_search.proofs.Bounded.{search_may_pass}
+use Rattle.std.proofs.Common.{◌∙◌, ap, refl}
 use Rattle.fancy_program.proofs.FitsLaws.{run_place}
-use Rattle.fancy_search.specs.Searches.{program}
 use Rattle.fancy_steps.specs.Tasks.{options_of as run_options_of, task_of}
-use Rattle.fancy_search.proofs.Searched.{none_promises, run_promises}
+use Rattle.fancy_vm.specs.Scratches as runs
+use Rattle.fancy_search.specs.Searches.{program}
+use Rattle.fancy_search.proofs.Pairs.{told_bounds, told_promises}
+use Rattle.fancy_search.proofs.Searched.{none_promises}
 use Rattle.fancy_search.proofs.search.Compiled.search_into.Goals as goal
-
-pub returns-clause-promise : goal.returns-clause-promise
-returns-clause-promise c i from =
-    run_promises i c.args.self.now c.args.text.now c.args.options.now from c.requires (answer_in c.run_into.result c.run_into.new.numbers)
-    c.run_into.ensures.machine c.run_into.ensures.headline
-
-pub returns-clause-bounds : goal.returns-clause-bounds
-returns-clause-bounds c i from =
-    search_may_pass i c.args.self.now c.args.text.now c.args.options.now from c.requires (answer_in c.run_into.result c.run_into.new.numbers)
-    c.run_into.ensures.bounds
 
 pub returns-then-is_too_short-clause-promise : goal.returns-then-is_too_short-clause-promise
 returns-then-is_too_short-clause-promise c i from =
     let text = c.args.text.now in
     let o = c.args.options.now in
-    let at = run_place (task_of (program c.args.self.now) text o) c.requires in
-    none_promises i c.args.self.now text o from c.requires (c.is_too_short.ensures c.if-is_too_short.true i (run_options_of o) from at refl)
+    let at = run_place (task_of (program c.args.self.now) text o) c.requires.fits in
+    none_promises i c.args.self.now text o from c.requires.fits (c.is_too_short.ensures c.if-is_too_short.true i (run_options_of o) from at refl)
+
+pub returns-then-is_too_short-clause-limits : goal.returns-then-is_too_short-clause-limits
+returns-then-is_too_short-clause-limits c = c.limit.ensures.limits ∙ c.limits.ensures
+
+pub returns-in-Ok-clause-promise : goal.returns-in-Ok-clause-promise
+returns-in-Ok-clause-promise c i from =
+    told_promises i c.args.self.now c.args.text.now c.args.options.now from c.requires.fits c.in-Ok.found c.search_by_engine.new.numbers
+    (c.in-Ok.ensures.answers i from)
+
+pub returns-in-Ok-clause-bounds : goal.returns-in-Ok-clause-bounds
+returns-in-Ok-clause-bounds c i from = told_bounds i c.args.text.now c.args.options.now c.in-Ok.found c.search_by_engine.new.numbers
+
+pub returns-in-Err-GaveUp-clause-limits : goal.returns-in-Err-GaveUp-clause-limits
+returns-in-Err-GaveUp-clause-limits c =
+    c.search_by_run-in-Err-GaveUp.ensures.limits ∙ (ap runs.limits_of c.give_up_engine.ensures.runs ∙ c.search_by_engine.ensures.limits)

@@ -23,7 +23,6 @@ invariant_of-result c =
       sound = subst (λ (s : StateView). IsSound c.args.task.now s.held) (sym c.requires.state)
           (record { slots = len; small = omega (arith, len); max_stack = refl; implicit = c.requires.implicit });
       are_trailing_newlines = c.new.ensures c.args.task.now.text.now;
-      is_cache = c.new-2.ensures c.args.task.now.text.now;
     }
 
 pub returns-clause-begins : goal.returns-clause-begins

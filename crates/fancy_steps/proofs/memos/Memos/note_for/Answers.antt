@@ -1,13 +1,10 @@
-use Rattle.std.proofs.Common.{Box, Global, Option, Some, IfSome, ap, refl, subst, sym, ◌∙◌}
+use Rattle.std.proofs.Common.{Box, Global, Some, ap, refl, subst, sym, ◌∙◌}
 use Rattle.fancy_fragments.specs.Fragments.{IsJoinedMemoFor}
 use Rattle.fancy_backtrack.specs.declared.memo.Memo.{Memo}
-use Rattle.fancy_plain.specs.OnePassCaches.{IsCacheOf}
-use Rattle.fancy_plain.specs.declared.one_pass_cache.OnePassCache.{OnePassCache}
 use Rattle.fancy_steps.specs.MemoRuns.{IsKeptAt}
-use Rattle.fancy_steps.specs.SearchEnds.{AreEndsOf}
 use Rattle.fancy_steps.proofs.MemosLaws.{memos_left, take_adds}
 use Rattle.fancy_steps.proofs.memos.Memos.note_for.Goals as goal
-use Rattle.fancy_steps.proofs.memos.Memos.note_for.Goals.{then-run-self, in-Some-1, in-None-1, else-run-self}
+use Rattle.fancy_steps.proofs.memos.Memos.note_for.Goals.{then-run-self, else-run-self}
 
 pub returns-in_err-grow-clause-memos : goal.returns-in_err-grow-clause-memos
 returns-in_err-grow-clause-memos c = record {
@@ -28,12 +25,7 @@ returns-in_err-new-in-None-clause-memos c =
 pub returns-in_ok-new-in-None-clause-note : goal.returns-in_ok-new-in-None-clause-note
 returns-in_ok-new-in-None-clause-note c =
     let text = c.args.task.now.text.now in
-    let f = c.args.fragment.now in
-    record {
-      memo = subst (IsJoinedMemoFor text f) (sym c.in_ok-new-in-None.ensures.ok) (c.joined_memo.ensures.memo text);
-      kept = c.new-in-None.ensures text f.nfa;
-      ends = tt;
-    }
+    subst (IsJoinedMemoFor text c.args.fragment.now) (sym c.in_ok-new-in-None.ensures.ok) (c.joined_memo.ensures.memo text)
 
 pub returns-in_ok-new-in-None-clause-memos : goal.returns-in_ok-new-in-None-clause-memos
 returns-in_ok-new-in-None-clause-memos c =
@@ -44,25 +36,14 @@ returns-after-run-self-clause-note c =
     let text = c.args.task.now.text.now in
     let f = c.args.fragment.now in
     let is_memo : Box Memo Global → Type 0 = λ m. IsJoinedMemoFor text f m.value in
-    let is_kept : Option OnePassCache → Type 0 = λ k. IfSome k (IsCacheOf text f.nfa) in
-    let is_ends : Option (Box OnePassCache Global) → Type 0 = AreEndsOf text f in
     let pc = c.args.pc in
     let found = c.in-Some.field-0 in
     elim c.if-run-self.branch [
-      | then-run-self w ↦
-          record {
-            memo = subst is_memo (sym w.memo-is) (w.clear_joined.ensures.memo text);
-            kept = subst is_kept (sym w.kept-is) (w.new-then-run-self.ensures text f.nfa);
-            ends = subst is_ends (sym w.ends-is) tt;
-          }
+      | then-run-self w ↦ subst is_memo (sym w.memo-is) (w.clear_joined.ensures.memo text)
       | else-run-self w ↦
-          let note = c.requires.memos.each pc found (c.in_ok-grow.ensures.same pc found (c.take_out.ensures.found ∙ ap Some c.in-Some.is))
-          w.if-run-self.false f c.requires.here in
-          record {
-            memo = subst is_memo (sym w.memo-is) note.memo;
-            kept = subst is_kept (sym w.kept-is) note.kept;
-            ends = subst is_ends (sym w.ends-is) note.ends;
-          }
+          subst is_memo (sym w.memo-is)
+          (c.requires.memos.each pc found (c.in_ok-grow.ensures.same pc found (c.take_out.ensures.found ∙ ap Some c.in-Some.is)) w.if-run-self.false f
+          c.requires.here)
     ]
 
 pub returns-after-run-self-clause-memos : goal.returns-after-run-self-clause-memos

@@ -1,0 +1,256 @@
+//! Searches by an engine.
+
+ghost use Rattle.std.specs.Prelude.{◌≡◌, ℕ, IfOk, IsTrue, None, OnOk, false, is_some, option_map};
+ghost use Rattle.fancy_meaning.specs.Answer.{answer, search_of};
+ghost use Rattle.fancy_meaning.specs.Fits.{run_fits};
+ghost use Rattle.fancy_meaning.specs.Premises.{Input, plan};
+ghost use Rattle.fancy_hybrid.specs.Patterns.{told};
+ghost use Rattle.fancy_steps.specs.Outcomes.{answer_in, first_pair};
+ghost use Rattle.fancy_steps.specs.SearchLimits.{StaysWithin};
+ghost use Rattle.fancy_steps.specs.Tasks.{options_of as run_options_of, task_of};
+ghost use Rattle.fancy_search.specs.Scratches.{Suits, limits_of, passed_of};
+ghost use Rattle.fancy_search.specs.Searches.{Bounds, IsCompiledFrom, Promises, PromisesPair, program};
+
+use crate::scratch::Scratch;
+use crate::search::Compiled;
+use fancy_expr::error::Error;
+use fancy_hybrid::search::{Stop, search_into};
+use fancy_steps::machine::Task;
+use fancy_vm::required_bytes::lacks_required;
+use fancy_vm::vm::{RunOptions, run_into, run_spans};
+use std::alloc::Global;
+
+/// Whether these options ask for the first match at any start.
+pub(crate) fn is_plain(options: &RunOptions) -> bool
+    ensures any_start { IsTrue result → options.now.anchored ≡ false }
+    ensures empty_too { IsTrue result → options.now.not_empty ≡ false }
+    ensures first_way { IsTrue result → options.now.leftmost_longest ≡ false }
+{
+    !options.anchored && !options.not_empty && !options.leftmost_longest
+}
+
+/// The end of the match that has these numbers, or of the text if there is no match.
+fn end_of(text: &str, is_match: bool, numbers: &Vec<usize>) -> usize {
+    match (is_match, numbers.get(1)) {
+        (true, Some(end)) => *end,
+        _ => text.len(),
+    }
+}
+
+impl Compiled {
+    /// Whether a search needs an engine.
+    pub(crate) fn is_due(&self, options: &RunOptions, scratch: &Scratch) -> bool {
+        self.common.is_some() && is_plain(options) && scratch.is_due()
+    }
+
+    /// Whether the text lacks a byte that each match needs.
+    fn lacks_required(
+        &self,
+        alloc: Global,
+        text: &str,
+        options: &RunOptions,
+        scratch: &Scratch,
+    ) -> bool
+        requires { IsTrue (run_fits (task_of (program self.now) text.now options.now)) }
+        ensures { IsTrue result → (i : Input) → IsCompiledFrom i self.now
+            → answer (search_of (plan i) text.now (run_options_of options.now)) ≡ None }
+    {
+        if options.pos != 0 || options.anchored {
+            return false;
+        }
+        let task = Task {
+            prog: &self.prog,
+            text,
+            options,
+            alloc,
+            limits: scratch.limits(),
+        };
+        lacks_required(&task)
+    }
+
+    /// Makes the tree's engine, unless the scratch holds it already or there is none.
+    fn make_engine(&self, alloc: Global, scratch: &mut Scratch) -> Result<(), Stop>
+        requires { Suits self.now scratch.old }
+        ensures suits { Suits self.now scratch.new }
+        ensures runs { scratch.new.runs ≡ scratch.old.runs }
+        ensures common { OnOk result (IsTrue (is_some self.now.common)) }
+    {
+        let Some(common) = &self.common else {
+            return Err(Stop::GaveUp);
+        };
+        if scratch.engine.is_none() {
+            let Ok(made) = common.engine(alloc) else {
+                return Err(Stop::Memory);
+            };
+            scratch.gave_up = made.is_none();
+            scratch.engine = made;
+        }
+        Ok(())
+    }
+
+    /// As `search_into`, by the engine, which may give up.
+    fn ask_into(
+        &self,
+        alloc: Global,
+        text: &str,
+        options: &RunOptions,
+        scratch: &mut Scratch,
+        numbers: &mut Vec<usize>,
+    ) -> Result<bool, Stop>
+        requires fits { IsTrue (run_fits (task_of (program self.now) text.now options.now)) }
+        requires suits { Suits self.now scratch.old }
+        ensures answers { (i : Input) → IsCompiledFrom i self.now → IfOk result (λ found.
+            answer (search_of (plan i) text.now (run_options_of options.now))
+            ≡ told found numbers.new.items) }
+        ensures limits { limits_of scratch.new ≡ limits_of scratch.old }
+        ensures stays { IfOk result (λ _. passed_of scratch.new ≡ None) }
+        ensures suits { Suits self.now scratch.new }
+    {
+        if !is_plain(options) {
+            return Err(Stop::GaveUp);
+        }
+        scratch.limit(scratch.limits());
+        self.make_engine(alloc, scratch)?;
+        let Some(engine) = &mut scratch.engine else {
+            return Err(Stop::GaveUp);
+        };
+        search_into(engine, text, options.pos, numbers)
+    }
+
+    /// As `search_into`, by an engine, if the text has what each match takes; it may give up.
+    pub(crate) fn search_by_engine(
+        &self,
+        alloc: Global,
+        text: &str,
+        options: &RunOptions,
+        scratch: &mut Scratch,
+        numbers: &mut Vec<usize>,
+    ) -> Result<bool, Stop>
+        requires fits { IsTrue (run_fits (task_of (program self.now) text.now options.now)) }
+        requires suits { Suits self.now scratch.old }
+        ensures answers { (i : Input) → IsCompiledFrom i self.now → IfOk result (λ found.
+            answer (search_of (plan i) text.now (run_options_of options.now))
+            ≡ told found numbers.new.items) }
+        ensures limits { limits_of scratch.new ≡ limits_of scratch.old }
+        ensures stays { IfOk result (λ _. passed_of scratch.new ≡ None) }
+        ensures suits { Suits self.now scratch.new }
+    {
+        if self.lacks_required(alloc, text, options, scratch) {
+            scratch.limit(scratch.limits());
+            return Ok(false);
+        }
+        self.ask_into(alloc, text, options, scratch, numbers)
+    }
+
+    /// As `find`, by the engine, which may give up.
+    fn ask_pair(
+        &self,
+        alloc: Global,
+        text: &str,
+        options: &RunOptions,
+        scratch: &mut Scratch,
+    ) -> Result<Option<(usize, usize)>, Stop>
+        requires fits { IsTrue (run_fits (task_of (program self.now) text.now options.now)) }
+        requires suits { Suits self.now scratch.old }
+        ensures answers { (i : Input) → IsCompiledFrom i self.now → IfOk result (λ found. found
+            ≡ option_map first_pair
+            (answer (search_of (plan i) text.now (run_options_of options.now)))) }
+        ensures limits { limits_of scratch.new ≡ limits_of scratch.old }
+        ensures stays { IfOk result (λ _. passed_of scratch.new ≡ None) }
+        ensures suits { Suits self.now scratch.new }
+    {
+        if !is_plain(options) {
+            return Err(Stop::GaveUp);
+        }
+        scratch.limit(scratch.limits());
+        self.make_engine(alloc, scratch)?;
+        let Some(engine) = &mut scratch.engine else {
+            return Err(Stop::GaveUp);
+        };
+        match engine.find(text, options.pos) {
+            Ok(found) => Ok(found),
+            Err(_) => Err(Stop::GaveUp),
+        }
+    }
+
+    /// As `find`, by an engine, if the text has what each match takes; it may give up.
+    pub(crate) fn find_by_engine(
+        &self,
+        alloc: Global,
+        text: &str,
+        options: &RunOptions,
+        scratch: &mut Scratch,
+    ) -> Result<Option<(usize, usize)>, Stop>
+        requires fits { IsTrue (run_fits (task_of (program self.now) text.now options.now)) }
+        requires suits { Suits self.now scratch.old }
+        ensures answers { (i : Input) → IsCompiledFrom i self.now → IfOk result (λ found. found
+            ≡ option_map first_pair
+            (answer (search_of (plan i) text.now (run_options_of options.now)))) }
+        ensures limits { limits_of scratch.new ≡ limits_of scratch.old }
+        ensures stays { IfOk result (λ _. passed_of scratch.new ≡ None) }
+        ensures suits { Suits self.now scratch.new }
+    {
+        if self.lacks_required(alloc, text, options, scratch) {
+            scratch.limit(scratch.limits());
+            return Ok(None);
+        }
+        self.ask_pair(alloc, text, options, scratch)
+    }
+
+    /// As `search_into`, by a run.
+    pub(crate) fn search_by_run(
+        &self,
+        alloc: Global,
+        text: &str,
+        options: &RunOptions,
+        scratch: &mut Scratch,
+        numbers: &mut Vec<usize>,
+    ) -> Result<bool, Error>
+        requires fits { IsTrue (run_fits (task_of (program self.now) text.now options.now)) }
+        requires suits { Suits self.now scratch.old }
+        ensures promise { (i : Input)
+            → IsCompiledFrom i self.now
+            → Promises i text.now (run_options_of options.now) (answer_in result numbers.new) }
+        ensures bounds { (i : Input)
+            → IsCompiledFrom i self.now
+            → Bounds i text.now (run_options_of options.now) (answer_in result numbers.new) }
+        ensures limits { limits_of scratch.new ≡ limits_of scratch.old }
+        ensures stays { StaysWithin result (passed_of scratch.new) }
+        ensures suits { Suits self.now scratch.new }
+    {
+        let runs = &mut scratch.runs;
+        let answer = run_into(alloc, &self.prog, text, options, runs, numbers);
+        let found = match &answer {
+            Ok(found) => *found,
+            Err(_) => false,
+        };
+        scratch.count(end_of(text, found, numbers).saturating_sub(options.pos));
+        answer
+    }
+
+    /// As `find`, by a run.
+    pub(crate) fn find_by_run(
+        &self,
+        alloc: Global,
+        text: &str,
+        options: &RunOptions,
+        scratch: &mut Scratch,
+    ) -> Result<Option<(usize, usize)>, Error>
+        requires fits { IsTrue (run_fits (task_of (program self.now) text.now options.now)) }
+        requires suits { Suits self.now scratch.old }
+        ensures promise { (i : Input)
+            → IsCompiledFrom i self.now
+            → PromisesPair i text.now (run_options_of options.now) result }
+        ensures limits { limits_of scratch.new ≡ limits_of scratch.old }
+        ensures stays { StaysWithin result (passed_of scratch.new) }
+        ensures suits { Suits self.now scratch.new }
+    {
+        let answer = run_spans(alloc, &self.prog, text, options, &mut scratch.runs);
+        let end = match &answer {
+            Ok(Some((_, end))) => *end,
+            _ => text.len(),
+        };
+        scratch.count(end.saturating_sub(options.pos));
+        answer
+    }
+}
