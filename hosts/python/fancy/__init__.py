@@ -20,9 +20,10 @@ from ._errors import LimitError, error
 from ._flags import RegexFlag
 from ._library import VERSION as __version__
 from ._library import version
-from ._patterns import Match, Pattern, Replacement
+from ._objects import Match, Pattern, compiled, forget
+from ._rest import Replacement
 from ._scanner import Found, Scanner
-from ._texts import forget_texts, plain, whole_number
+from ._texts import plain, whole_number
 
 __all__ = [
     "A", "ASCII", "DOTALL", "Found", "I", "IGNORECASE", "LimitError", "M", "MULTILINE", "Match", "NOFLAG", "Pattern", "RegexFlag", "S",
@@ -90,42 +91,42 @@ def compile(pattern: AnyPattern, flags: int = 0, **options: Any) -> Pattern:
 
 def search(pattern: AnyPattern, string: str, flags: int = 0) -> Optional[Match]:
     """The first match of the pattern in the string, or None. See `Pattern.search`."""
-    return compile(pattern, flags).search(string)
+    return compiled(pattern, flags).search(string)
 
 
 def match(pattern: AnyPattern, string: str, flags: int = 0) -> Optional[Match]:
     """The match at the start of the string, or None. See `Pattern.match`."""
-    return compile(pattern, flags).match(string)
+    return compiled(pattern, flags).match(string)
 
 
 def fullmatch(pattern: AnyPattern, string: str, flags: int = 0) -> Optional[Match]:
     """The match of the whole string, or None. See `Pattern.fullmatch`."""
-    return compile(pattern, flags).fullmatch(string)
+    return compiled(pattern, flags).fullmatch(string)
 
 
 def finditer(pattern: AnyPattern, string: str, flags: int = 0) -> Iterator[Match]:
     """An iterator over the matches, from left to right. See `Pattern.finditer`."""
-    return compile(pattern, flags).finditer(string)
+    return compiled(pattern, flags).finditer(string)
 
 
 def findall(pattern: AnyPattern, string: str, flags: int = 0) -> List[Any]:
     """The texts of all matches, or of their groups, as a list. See `Pattern.findall`."""
-    return compile(pattern, flags).findall(string)
+    return compiled(pattern, flags).findall(string)
 
 
 def split(pattern: AnyPattern, string: str, maxsplit: int = 0, flags: int = 0) -> List[Optional[str]]:
     """The pieces of the string between the matches, as a list. See `Pattern.split`."""
-    return compile(pattern, flags).split(string, maxsplit)
+    return compiled(pattern, flags).split(string, maxsplit)
 
 
 def sub(pattern: AnyPattern, repl: Replacement, string: str, count: int = 0, flags: int = 0) -> str:
     """The string with its matches replaced. See `Pattern.sub`."""
-    return compile(pattern, flags).sub(repl, string, count)
+    return compiled(pattern, flags).sub(repl, string, count)
 
 
 def subn(pattern: AnyPattern, repl: Replacement, string: str, count: int = 0, flags: int = 0) -> Tuple[str, int]:
     """The string with its matches replaced, and how many were. See `Pattern.subn`."""
-    return compile(pattern, flags).subn(repl, string, count)
+    return compiled(pattern, flags).subn(repl, string, count)
 
 
 _SPECIAL = {ord(letter): "\\" + letter for letter in "()[]{}?*+-|^$\\.&~# \t\n\r\v\f"}
@@ -146,4 +147,4 @@ def escape(pattern: str) -> str:
 def purge() -> None:
     """Forgets the patterns that `compile` kept, and the strings of the last searches."""
     _kept.cache_clear()
-    forget_texts()
+    forget()

@@ -4,10 +4,10 @@ from __future__ import annotations
 
 import os
 from ctypes import CDLL, POINTER, Structure, c_bool, c_char_p, c_size_t, c_uint32, c_uint64, c_void_p
-from ctypes import create_string_buffer, sizeof
+from ctypes import cast, create_string_buffer, sizeof
 from pathlib import Path
 from threading import Lock
-from typing import Any, Callable, Dict, List, Mapping, Optional, Tuple
+from typing import Any, Callable, Dict, Iterable, List, Mapping, Optional, Tuple
 
 from ._errors import LimitError, error
 from ._flags import RegexFlag
@@ -20,7 +20,7 @@ MINOR = VERSION.rpartition(".")[0]
 NAMES = (f"libfancy.so.{MINOR}", "libfancy.so")
 
 OK, NO_MATCH, MEMORY = 0, 1, 5
-# how many numbers of a row stand before the spans of its groups
+# how many numbers of a row are before the spans of its groups
 ROW_SPANS = 3
 LIMITS = (7, 8, 9, 41, 42)
 
@@ -54,7 +54,7 @@ _SWITCHES = (
 )
 
 
-class _Options(Structure):
+class OptionsStruct(Structure):
     _fields_ = [
         *((name, c_size_t) for name in _SIZES),
         ("step_limit", c_uint64),
@@ -66,12 +66,12 @@ class _Options(Structure):
     ]
 
 
-class _Outcome(Structure):
+class Outcome(Structure):
     _fields_ = [("code", c_uint32), *((name, c_size_t) for name in ("byte", "group", "count", "next"))]
 
 
 class Standing(Structure):
-    """Where a list of all matches stands."""
+    """How far a list of all matches has come."""
 
     _fields_ = [("pos", c_size_t), ("last", c_size_t), ("has_last", c_bool)]
 
@@ -101,38 +101,38 @@ def _loaded() -> CDLL:
     )
 
 
-_PROGRAM, _OPTIONS, _NUMBERS, _ROOM = POINTER(_Program), POINTER(_Options), POINTER(c_size_t), (c_void_p, c_size_t)
+_PROGRAM, _OPTIONS, _NUMBERS, _ROOM = POINTER(_Program), POINTER(OptionsStruct), POINTER(c_size_t), (c_void_p, c_size_t)
 _SCANNER = POINTER(_Scanner)
 _TEXT = (c_char_p, c_size_t)
 _CALLS = {
-    "fancy_default_options": (_Options, ()),
+    "fancy_default_options": (OptionsStruct, ()),
     "fancy_version": (c_size_t, _ROOM),
-    "fancy_compile_pattern": (_Outcome, (*_TEXT, _OPTIONS, _PROGRAM)),
-    "fancy_clone": (_Outcome, (_PROGRAM, _PROGRAM)),
+    "fancy_compile_pattern": (Outcome, (*_TEXT, _OPTIONS, _PROGRAM)),
+    "fancy_clone": (Outcome, (_PROGRAM, _PROGRAM)),
     "fancy_free": (None, (_PROGRAM,)),
     "fancy_group_count": (c_size_t, (_PROGRAM,)),
     "fancy_group_name": (c_size_t, (_PROGRAM, c_size_t, *_ROOM)),
-    "fancy_find": (_Outcome, (_PROGRAM, *_TEXT, _OPTIONS, _NUMBERS, c_size_t)),
-    "fancy_find_all": (_Outcome, (_PROGRAM, *_TEXT, _OPTIONS, POINTER(Standing), _NUMBERS, c_size_t)),
-    "fancy_captures_all": (_Outcome, (_PROGRAM, *_TEXT, _OPTIONS, POINTER(Standing), _NUMBERS, c_size_t)),
-    "fancy_scanner_add": (_Outcome, (_SCANNER, *_TEXT, _OPTIONS)),
-    "fancy_scan": (_Outcome, (_SCANNER, *_TEXT, _OPTIONS, _NUMBERS, c_size_t, _NUMBERS, c_size_t)),
+    "fancy_find": (Outcome, (_PROGRAM, *_TEXT, _OPTIONS, _NUMBERS, c_size_t)),
+    "fancy_find_all": (Outcome, (_PROGRAM, *_TEXT, _OPTIONS, POINTER(Standing), _NUMBERS, c_size_t)),
+    "fancy_captures_all": (Outcome, (_PROGRAM, *_TEXT, _OPTIONS, POINTER(Standing), _NUMBERS, c_size_t)),
+    "fancy_scanner_add": (Outcome, (_SCANNER, *_TEXT, _OPTIONS)),
+    "fancy_scan": (Outcome, (_SCANNER, *_TEXT, _OPTIONS, _NUMBERS, c_size_t, _NUMBERS, c_size_t)),
     "fancy_scanner_free": (None, (_SCANNER,)),
     "fancy_error_name": (c_size_t, (c_uint32, *_ROOM)),
-    "fancy_error_message": (c_size_t, (POINTER(_Outcome), *_ROOM)),
+    "fancy_error_message": (c_size_t, (POINTER(Outcome), *_ROOM)),
     "fancy_explain_pattern": (c_size_t, (*_TEXT, _OPTIONS, *_ROOM)),
 }
 
 
 def _declared(library: CDLL) -> CDLL:
-    for name, (answer, arguments) in _CALLS.items():
+    for name, (result, arguments) in _CALLS.items():
         call = getattr(library, name)
-        call.restype, call.argtypes = answer, arguments
+        call.restype, call.argtypes = result, arguments
     return library
 
 
 def _written(write: Callable[..., int], *arguments: Any) -> str:
-    """What a call writes into a room, whose answer is the length of the whole."""
+    """What a call writes into a room. It returns the length of the whole text."""
     room = create_string_buffer(128)
     length = write(*arguments, room, len(room))
     if length >= len(room):
@@ -150,13 +150,18 @@ class _Library:
             raise AttributeError(name)
         library = _declared(_loaded())
         defaults, found = library.fancy_default_options(), _written(library.fancy_version)
-        if defaults.size != sizeof(_Options) or found.rpartition(".")[0] != MINOR:
+        if defaults.size != sizeof(OptionsStruct) or found.rpartition(".")[0] != MINOR:
             raise ImportError(f"the library {library._name} is of version {found}, and this package needs {MINOR}")
         vars(self).update({call: getattr(library, call) for call in _CALLS})
         return vars(self)[name]
 
 
 _library = _Library()
+
+
+def addresses(names: Iterable[str]) -> List[int]:
+    """Where the calls of these names are in memory, for the extension."""
+    return [cast(getattr(_library, name), c_void_p).value or 0 for name in names]
 
 
 def version() -> str:
@@ -215,13 +220,17 @@ class Options:
     def with_(self, **fields: Any) -> "Options":
         return Options(self.given, {**self._fields, **fields})
 
+    def is_verbose(self) -> bool:
+        """Whether blanks are left out of a pattern."""
+        return bool(self._fields.get("ignore_whitespace"))
+
     def nesting_deeper(self, levels: int) -> "Options":
         """The same options, which allow this many nodes more in one another."""
         most = self._fields.get("max_nesting", _library.fancy_default_options().max_nesting)
         return self.with_(max_nesting=min(most + levels, UNSET))
 
-    def _struct(self) -> _Options:
-        """As the library has them. The texts of all searches are what `str.encode` answers."""
+    def struct(self) -> OptionsStruct:
+        """As the library has them. The texts of all searches come from `str.encode`."""
         options = _library.fancy_default_options()
         options.text_is_utf8 = True
         for name, value in self._fields.items():
@@ -238,8 +247,8 @@ class Options:
 # ---- Programs
 
 
-def _fault(outcome: _Outcome, pattern: Optional[str]) -> Optional[Exception]:
-    """Why there is no answer. A match and none are answers."""
+def fault_of(outcome: Outcome, pattern: Optional[str]) -> Optional[Exception]:
+    """Why a call has no result. No match is a result."""
     if outcome.code in (OK, NO_MATCH):
         return None
     if outcome.code == MEMORY:
@@ -249,6 +258,19 @@ def _fault(outcome: _Outcome, pattern: Optional[str]) -> Optional[Exception]:
     return kind(_written(_library.fancy_error_message, outcome), pattern, None, name)
 
 
+def refusal(pattern: str, outcome: Outcome, options: OptionsStruct) -> Exception:
+    """Why a pattern was not compiled."""
+    if outcome.code == MEMORY:
+        return MemoryError()
+    text = pattern.encode()
+    name = _written(_library.fancy_error_name, outcome.code)
+    message = _written(_library.fancy_explain_pattern, text, len(text), options) or name
+    if outcome.byte == UNSET:
+        return error(message, pattern, None, name)
+    message = message.replace(f"at byte {outcome.byte}: ", "", 1)
+    return error(message, pattern, len(text[: outcome.byte].decode()), name)
+
+
 class _Handle:
     """A program of the library with what one search at a time writes to; it is freed with the handle."""
 
@@ -256,7 +278,7 @@ class _Handle:
 
     def __init__(self, options: Options) -> None:
         # first what may fail, so that there is nothing to free then
-        self.options = options._struct()
+        self.options = options.struct()
         self.program = _Program()
         self.spans = (c_size_t * 0)()
 
@@ -290,36 +312,22 @@ class Program:
         handle = _Handle(self._options)
         outcome = _library.fancy_compile_pattern(text, len(text), handle.options, handle.program)
         if outcome.code != OK:
-            raise self._refusal(text, outcome, handle.options)
+            raise refusal(self.pattern, outcome, handle.options)
         handle.make_room()
         return handle
 
     def _copied(self) -> _Handle:
-        """A new handle. Only memory may be wanted."""
+        """A new handle. Its one error is out of memory."""
         handle = _Handle(self._options)
         with self._copying:
-            self._expect_answer(_library.fancy_clone(self._original.program, handle.program))
+            self._expect_result(_library.fancy_clone(self._original.program, handle.program))
         handle.make_room()
         return handle
 
-    def _refusal(self, text: bytes, outcome: _Outcome, options: _Options) -> Exception:
-        if outcome.code == MEMORY:
-            return MemoryError()
-        name = _written(_library.fancy_error_name, outcome.code)
-        message = _written(_library.fancy_explain_pattern, text, len(text), options) or name
-        if outcome.byte == UNSET:
-            return error(message, self.pattern, None, name)
-        message = message.replace(f"at byte {outcome.byte}: ", "", 1)
-        return error(message, self.pattern, len(text[: outcome.byte].decode()), name)
-
-    def names(self) -> Dict[str, Tuple[int, ...]]:
-        """The groups of each name, in the order in which they open."""
+    def names(self) -> List[Optional[str]]:
+        """The name of each group from 0 on, or None."""
         handle = self._take()
-        names: Dict[str, Tuple[int, ...]] = {}
-        for group in range(1, self.groups):
-            name = _written(_library.fancy_group_name, handle.program, group)
-            if name:
-                names[name] = (*names.get(name, ()), group)
+        names = [_written(_library.fancy_group_name, handle.program, group) or None for group in range(self.groups)]
         self._idle.append(handle)
         return names
 
@@ -332,9 +340,9 @@ class Program:
             pass
         return self._copied()
 
-    def _expect_answer(self, outcome: _Outcome) -> None:
-        """Raises where there is no answer."""
-        fault = _fault(outcome, self.pattern)
+    def _expect_result(self, outcome: Outcome) -> None:
+        """Raises if the call has no result."""
+        fault = fault_of(outcome, self.pattern)
         if fault is not None:
             raise fault
 
@@ -346,7 +354,7 @@ class Program:
         outcome = _library.fancy_find(handle.program, text, length, options, spans, len(spans))
         found = spans[:] if outcome.code == OK else None
         self._idle.append(handle)
-        self._expect_answer(outcome)
+        self._expect_result(outcome)
         return found
 
     def find_all(
@@ -361,7 +369,7 @@ class Program:
         outcome = call(handle.program, text, length, handle.options, standing, spans, len(spans))
         self._idle.append(handle)
         rows = [spans[at : at + width] for at in range(0, width * outcome.count, width)]
-        return rows, _fault(outcome, self.pattern), outcome.code == OK
+        return rows, fault_of(outcome, self.pattern), outcome.code == OK
 
 
 # ---- Many patterns
@@ -375,7 +383,7 @@ class Patterns:
     def __init__(self) -> None:
         self.scanner = _Scanner()
         # of a scan: those of its patterns were given with them
-        self.options = Options((), {})._struct()
+        self.options = Options((), {}).struct()
 
     def __del__(self, library: _Library = _library) -> None:
         # without patterns it holds nothing
@@ -383,21 +391,22 @@ class Patterns:
             library.fancy_scanner_free(self.scanner)
 
     def add(self, pattern: str, options: Options) -> None:
-        """Adds a pattern that was compiled with these options before. Only memory may be wanted."""
+        """Adds a pattern that was compiled with these options before. The one error is out of memory."""
         text = pattern.encode()
-        fault = _fault(_library.fancy_scanner_add(self.scanner, text, len(text), options._struct()), pattern)
+        fault = fault_of(_library.fancy_scanner_add(self.scanner, text, len(text), options.struct()), pattern)
         if fault is not None:
             raise fault
 
-    def scan(
-        self, text: bytes, length: int, pos: int, groups: int, room: int
-    ) -> Tuple[List[List[int]], int, int, Optional[Exception], bool]:
-        """The rows of the next matches, at most `room`, each with `groups` groups, and where the scan goes on; the
-        pattern that exceeded a limit, if that is why there is no more; why there is no more, if that is an error; and
-        whether there may be more."""
-        width = ROW_SPANS + 2 * groups
-        rows = (c_size_t * (width * room))()
+    def scan(self, text: bytes, length: int, pos: int, groups: int, room: int) -> Tuple[Any, int, int, int, Optional[Exception], bool]:
+        """The numbers of the rows of the next matches, at most `room`, each with `groups` groups; how many rows there are, and
+        where the scan goes on; the pattern that exceeded a limit, if that is why there is no more; why there is no more, if that
+        is an error; and whether there may be more."""
+        rows = (c_size_t * (row_width(groups) * room))()
         at = c_size_t(pos)
         outcome = _library.fancy_scan(self.scanner, text, length, self.options, at, groups, rows, len(rows))
-        numbers = [rows[start : start + width] for start in range(0, width * outcome.count, width)]
-        return numbers, at.value, outcome.group, _fault(outcome, None), outcome.code == OK
+        return rows, outcome.count, at.value, outcome.group, fault_of(outcome, None), outcome.code == OK
+
+
+def row_width(groups: int) -> int:
+    """How many numbers a row with so many groups has."""
+    return ROW_SPANS + 2 * groups

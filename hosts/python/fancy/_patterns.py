@@ -1,38 +1,21 @@
-"""Compiled patterns, and their matches."""
+"""Compiled patterns, and their matches, by ctypes: where the extension is not there."""
 
 from __future__ import annotations
 
 import sys
-from itertools import islice
-from types import MappingProxyType
-from typing import Any, Callable, Dict, Iterator, List, Mapping, Optional, Tuple, Union
+from typing import Any, Dict, Iterator, List, Mapping, Optional, Tuple
 
-from ._errors import error
 from ._flags import RegexFlag
-from ._library import UNSET, Options, Program, Standing
-from ._readings import Reading
-from ._templates import Template
-from ._texts import Text, plain, text_of, whole_number
-
-Group = Union[int, str]
-Replacement = Union[str, Callable[["Match"], Optional[str]]]
-
+from ._library import ROW_SPANS, UNSET, Options, Program, Standing
+from ._rest import Group, MatchRest, PatternRest, Replacement, numbered
+from ._texts import Text, forget_texts, plain, text_of, whole_number
 
 # For how many numbers a call has room, at most, or for one match.
 _MOST_ROOM = 1 << 17
 
 
-class Match:
-    """A match, with its groups. Positions are in characters of the string, from 0.
-
-    re           the pattern
-    string       the string
-    pos, endpos  the range that was searched
-    regs         start and end of each group from 0 on; (-1, -1) if a group is not set
-
-    A group is named by its number or its name. IndexError says that there is no such group. Of several groups with one name,
-    the first that is set is meant.
-    """
+class Match(MatchRest):
+    __doc__ = MatchRest.__doc__
 
     __module__ = "fancy"
     __slots__ = ("re", "string", "pos", "endpos", "regs", "_text")
@@ -98,13 +81,6 @@ class Match:
         """Start and end of a group; (-1, -1) if it is not set."""
         return self.regs[self._number(group)]
 
-    def expand(self, template: str) -> str:
-        """The template with each reference to a group (`\\1`, `\\g<name>`) replaced by what the group captured.
-
-        Raises `error` if the template cannot be read.
-        """
-        return self.re._template(template).expand(self)
-
     @property
     def lastindex(self) -> Optional[int]:
         """The number of the group that closed last; None if none is set. It is the last one in the pattern, of those in one
@@ -122,79 +98,42 @@ class Match:
         last = self.lastindex
         return next((name for name, numbers in self.re._numbers.items() if last in numbers), None)
 
-    def __copy__(self) -> "Match":
-        return self
 
-    def __deepcopy__(self, memo: Any) -> "Match":
-        return self
-
-    def __repr__(self) -> str:
-        return f"<fancy.Match object; span={self.regs[0]}, match={self[0]!r}>"
-
-    def __class_getitem__(cls, kind: Any) -> Any:
-        return cls
-
-
-class Pattern:
-    """A compiled pattern; `compile` makes it. Several threads may search with one at the same time.
-
-    pattern     the pattern, as a string
-    flags       the flags
-    groups      how many groups it has, without group 0
-    groupindex  the number of the first group with each name
-
-    Each search takes `pos` and `endpos`, in characters. The text before pos is there for look-behind, `\\b` and `^`; what
-    follows endpos is not. A search that exceeds a limit raises `LimitError`, and out of memory is `MemoryError`.
-    """
+class Pattern(PatternRest):
+    __doc__ = PatternRest.__doc__
 
     __module__ = "fancy"
     __slots__ = (
-        "pattern", "flags", "groups", "groupindex", "_options", "_numbers", "_programs", "_templates", "_read", "__weakref__",
+        "pattern", "flags", "groups", "groupindex", "_text", "_options", "_numbers", "_is_adjacent", "_programs", "_cache", "__weakref__",
     )  # fmt: skip
 
-    def __init__(self, pattern: str, flags: RegexFlag, options: Mapping[str, Any]) -> None:
+    def __init__(
+        self, pattern: Any, flags: int, options: Any, text: Optional[str] = None, names: Any = None, adjacent: bool = False
+    ) -> None:
+        """The last three are of the module `re`: the text that is compiled, the names of the groups, and whether an empty match
+        may follow directly after another."""
         self.pattern = pattern
         self.flags = flags
-        self._options = Options.of(flags, options)
-        program = Program(pattern, self._options)
+        self._text: str = pattern if text is None else text
+        self._options = options if isinstance(options, Options) else Options.of(RegexFlag(flags), options)
+        self._is_adjacent = adjacent
+        program = Program(self._text, self._options)
         self._programs: Dict[str, Program] = {"search": program}
         self.groups = program.groups - 1
-        self._numbers = program.names()
-        self.groupindex: Mapping[str, int] = MappingProxyType({name: of[0] for name, of in self._numbers.items()})
-        self._templates: Dict[str, Template] = {}
-        self._read: Optional[Reading] = None
-
-    # ---- What is made when it is first needed
+        self._numbers, self.groupindex = numbered(program.names() if names is None else names)
+        self._cache: Dict[str, Any] = {}
 
     def _program(self, way: str) -> Program:
-        """The program for a way to search: `search` or `full`."""
+        """The program for a way to search: `search`, `full`, or `advance` for matches that are not empty."""
         if way not in self._programs:
-            self._programs[way] = self._whole()
+            text, options = self._whole() if way == "full" else (self._text, self._options.with_(not_empty=True))
+            self._programs[way] = Program(text, options)
         return self._programs[way]
 
-    def _whole(self) -> Program:
-        """The program of the pattern whose matches end where the text does."""
-        if self._reading().calls_whole:
-            # what is called has to be the pattern as it is: its longest match ends where the text does, if one does
-            return Program(self.pattern, self._options.with_(longest=True))
-        # no parenthesis more, since a pattern may nest as deep as is allowed; the tree is one level deeper
-        return Program(self._reading().with_each_branch("\\z"), self._options.nesting_deeper(1))
-
-    def _template(self, text: str) -> Template:
-        if not isinstance(text, str):
-            raise TypeError(f"a replacement is a string or a function, not {type(text).__name__!r}")
-        text = plain(text)
-        template = self._templates.get(text)
-        if template is None:
-            if len(self._templates) >= 64:
-                self._templates.clear()
-            template = self._templates[text] = Template(text, self.groups, self.groupindex)
-        return template
-
-    def _reading(self) -> Reading:
-        if self._read is None:
-            self._read = Reading(self.pattern, bool(self.flags & RegexFlag.VERBOSE))
-        return self._read
+    @property
+    def _idle(self) -> int:
+        """How many handles no search uses."""
+        return len(self._programs["search"]._idle)
 
     # ---- One match
 
@@ -288,36 +227,23 @@ class Pattern:
         # what a function writes may be None, which is nothing
         return "".join([piece for piece in pieces if piece is not None]), len(pieces) // 2
 
-    # ---- As a value
 
-    def _key(self) -> Tuple[Any, ...]:
-        return self.pattern, self.flags, self._options
-
-    def __eq__(self, other: object) -> bool:
-        return self._key() == other._key() if isinstance(other, Pattern) else NotImplemented
-
-    def __hash__(self) -> int:
-        return hash(self._key())
-
-    def __repr__(self) -> str:
-        flags = self.flags & ~RegexFlag.UNICODE
-        return f"fancy.compile({self.pattern!r}{f', {flags!r}' if flags else ''})"
-
-    def __copy__(self) -> "Pattern":
-        return self
-
-    def __deepcopy__(self, memo: Any) -> "Pattern":
-        return self
-
-    def __reduce__(self) -> Tuple[Any, ...]:
-        return _rebuilt, (self.pattern, int(self.flags), dict(self._options.given))
-
-    def __class_getitem__(cls, kind: Any) -> Any:
-        return cls
+    _kind = Match
 
 
-def _rebuilt(pattern: str, flags: int, options: Mapping[str, Any]) -> Pattern:
-    return Pattern(pattern, RegexFlag(flags), options)
+class ReMatch(Match):
+    __doc__ = MatchRest.__doc__
+    __module__ = "fancy.re"
+    __qualname__ = "Match"
+    __slots__ = ()
+
+
+class RePattern(Pattern):
+    __doc__ = PatternRest.__doc__
+    __module__ = "fancy.re"
+    __qualname__ = "Pattern"
+    __slots__ = ()
+    _kind = ReMatch
 
 
 class _Range:
@@ -338,19 +264,38 @@ class _Range:
         return self.match_of(spans) if spans else None
 
     def match_of(self, spans: List[int]) -> Match:
-        return Match(self.pattern, self.string, self.text, self.pos, self.endpos, spans)
+        return self.pattern._kind(self.pattern, self.string, self.text, self.pos, self.endpos, spans)
 
     def matches(self, limit: int = 0, with_groups: bool = True) -> Iterator[Match]:
         """Every match of the list, or the first `limit` of them if it is not 0, with the groups of each or with group 0
         alone."""
         if self.pos > self.endpos or limit < 0:
             return iter(())
-        found = self.spans(limit or sys.maxsize, with_groups and self.pattern.groups > 0)
-        return islice(map(self.match_of, found), limit or None)
+        limit = limit or sys.maxsize
+        if self.pattern._is_adjacent:
+            return map(self.match_of, self.adjacent_spans(limit))
+        return map(self.match_of, self.spans(limit, with_groups and self.pattern.groups > 0))
+
+    def adjacent_spans(self, limit: int) -> Iterator[List[int]]:
+        """As `spans` with groups: after an empty match comes one that begins there and is not empty, or else the first one
+        behind."""
+        at, was_empty = self.text.byte_of(self.pos), False
+        for _ in range(limit):
+            found = self.pattern._program("advance").find(self.text.utf8, self.end, at, True) if was_empty else None
+            if found is None and was_empty:
+                if at >= self.end:
+                    return
+                at = self.text.byte_of(self.text.place_of(at) + 1)
+            if found is None:
+                found = self.pattern._program("search").find(self.text.utf8, self.end, at, False)
+            if found is None:
+                return
+            yield found
+            at, was_empty = found[1], found[0] == found[1]
 
     def spans(self, limit: int, with_groups: bool) -> Iterator[List[int]]:
-        """Start and end of each match, or of each group of each match. Each call has room for twice as many matches as the
-        one before, so there are few calls."""
+        """Start and end of each match, or of each group of each match, of at most `limit`. Each call has room for twice as many
+        matches as the one before, so there are few calls."""
         program = self.pattern._program("search")
         standing = Standing(self.text.byte_of(self.pos), 0, False)
         most = max(1, _MOST_ROOM // (2 * program.groups if with_groups else 2))
@@ -363,3 +308,26 @@ class _Range:
             limit -= len(rows)
             has_more = has_more and limit > 0
             room = min(2 * room, most)
+
+
+def compiled(pattern: Any, flags: int) -> Pattern:
+    """What `compile` gives without options."""
+    from . import compile
+
+    return compile(pattern, flags)
+
+
+def found(
+    rows: Any, count: int, width: int, patterns: Tuple[Pattern, ...], string: str, pos: int, endpos: int, kind: Any
+) -> Iterator[Any]:
+    """The matches of the rows of a scanner: each with the index of its pattern, and that of the first one that stopped."""
+    text = text_of(string)
+    for start in range(0, width * count, width):
+        index, stopped = rows[start], rows[start + 1]
+        pattern = patterns[index]
+        spans = rows[start + ROW_SPANS : start + ROW_SPANS + 2 * (pattern.groups + 1)]
+        match = pattern._kind(pattern, string, text, pos, endpos, spans)
+        yield kind(index, match, None if stopped == UNSET else stopped)
+
+
+forget, re_pattern = forget_texts, RePattern

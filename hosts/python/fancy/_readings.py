@@ -112,7 +112,7 @@ class Reading:
         self._at = end if end >= 0 else len(self._pattern)
 
     def _skip_class(self) -> None:
-        """Goes behind a class, in which others may stand."""
+        """Goes past a class, which may have others inside."""
         depth = 0
         while self._at < len(self._pattern):
             letter = self._pattern[self._at]
@@ -122,7 +122,7 @@ class Reading:
             elif letter == "[":
                 depth += 1
                 self._at += self._begins("^")
-                # what stands first is itself
+                # what comes first is itself
                 self._at += self._begins("]")
             elif letter == "]":
                 depth -= 1
@@ -171,7 +171,7 @@ class Reading:
         return most == "" or int(most) > 1
 
     def _skip_blanks(self) -> None:
-        """Goes behind what is left out before a quantifier."""
+        """Goes past what is ignored before a quantifier."""
         while self._begins("(?#") or self._is_verbose and self._begins(" ", "\t", "\n", "\r", "#"):
             if self._begins("(?#"):
                 self._skip_comment()

@@ -4,11 +4,11 @@ from __future__ import annotations
 
 import sys
 from threading import Lock
-from typing import Iterable, Iterator, List, NamedTuple, Optional
+from typing import Iterable, Iterator, NamedTuple, Optional
 
 from ._errors import LimitError
-from ._library import ROW_SPANS, UNSET, Patterns
-from ._patterns import Match, Pattern
+from ._library import Patterns, row_width
+from ._objects import Match, Pattern, RePattern, found
 from ._texts import text_of
 
 # For how many numbers a call has room, at most, or for one match.
@@ -45,9 +45,9 @@ class Scanner:
         self.patterns = tuple(patterns)
         self._patterns = Patterns()
         for pattern in self.patterns:
-            if not isinstance(pattern, Pattern):
+            if not isinstance(pattern, (Pattern, RePattern)):
                 raise TypeError(f"a scanner is made of patterns that were compiled, not of {type(pattern).__name__!r}")
-            self._patterns.add(pattern.pattern, pattern._options)
+            self._patterns.add(pattern._text, pattern._options)
         self._groups = 1 + max((pattern.groups for pattern in self.patterns), default=0)
         self._lock = Lock()
 
@@ -59,10 +59,7 @@ class Scanner:
     def scan(self, string: str, pos: int = 0, endpos: int = sys.maxsize) -> Iterator[Found]:
         """An iterator over the matches, from left to right. Each search begins where the match before it ended, or one
         character further if that match was empty. Raises as `search` does."""
-        return self._found(string, pos, endpos, _MOST_ROOM // self._width())
-
-    def _width(self) -> int:
-        return ROW_SPANS + 2 * self._groups
+        return self._found(string, pos, endpos, _MOST_ROOM // row_width(self._groups))
 
     def _found(self, string: str, pos: int, endpos: int, most: int) -> Iterator[Found]:
         """Each call has room for twice as many matches as the one before, since each searches for each pattern once more."""
@@ -74,12 +71,8 @@ class Scanner:
         room, has_more = 1, True
         while has_more:
             with self._lock:
-                rows, at, stopped, fault, has_more = self._patterns.scan(text.utf8, end, at, self._groups, room)
-            for row in rows:
-                pattern = self.patterns[row[0]]
-                spans: List[int] = row[ROW_SPANS : ROW_SPANS + 2 * (pattern.groups + 1)]
-                match = Match(pattern, string, text, pos, endpos, spans)
-                yield Found(row[0], match, None if row[1] == UNSET else row[1])
+                rows, count, at, stopped, fault, has_more = self._patterns.scan(text.utf8, end, at, self._groups, room)
+            yield from found(rows, count, row_width(self._groups), self.patterns, string, pos, endpos, Found)
             if isinstance(fault, LimitError):
                 raise LimitError(fault.msg, self.patterns[stopped].pattern, None, fault.name)
             if fault is not None:

@@ -26,7 +26,7 @@ def whole_number(number: Any) -> int:
 class Text:
     """A string with its UTF-8, and the way from bytes to characters and back.
 
-    It is made in time linear in the string. A place is then found in time logarithmic in it.
+    It is made in time linear in the string. A position is then found in time logarithmic in it.
     A string with a lone surrogate has no UTF-8: it is refused by a UnicodeEncodeError.
     """
 
@@ -51,11 +51,11 @@ class Text:
         return self._starts
 
     def clipped(self, place: Any) -> int:
-        """The place that a caller names, or the nearest that the string has."""
+        """The position that a caller names, or the nearest that the string has."""
         return max(0, min(whole_number(place), len(self.string)))
 
     def byte_of(self, place: int) -> int:
-        """The byte where the character at a place begins; the length in bytes for the end."""
+        """The byte where the character at a position begins; the length in bytes for the end."""
         if place == 0 or self._is_plain():
             return place
         if place == len(self.string):
@@ -64,7 +64,7 @@ class Text:
         return self._marks()[mark] + len(self.string[mark * _STEP : place].encode())
 
     def place_of(self, byte: int) -> int:
-        """The place of the character that begins at a byte."""
+        """The position of the character that begins at a byte."""
         if self._is_plain():
             return byte
         starts = self._marks()
@@ -72,7 +72,7 @@ class Text:
         return mark * _STEP + len(self.utf8[starts[mark] : byte].decode())
 
 
-# Several threads may ask at the same time. What is kept holds its string, so that no other takes its place in memory.
+# Several threads may ask at the same time. What is kept holds its string, so no other string gets its address.
 _kept = lru_cache(maxsize=_KEPT)(Text)
 
 

@@ -3,10 +3,10 @@
 import doctest
 
 import fancy
-from fancy import _patterns, _scanner
+from fancy import _patterns, _scanner, re
 
 
 def load_tests(loader, tests, pattern):
-    for module in (fancy, _patterns, _scanner):
+    for module in (fancy, _patterns, _scanner, re):
         tests.addTests(doctest.DocTestSuite(module))
     return tests

@@ -6,6 +6,7 @@ import time
 import unittest
 
 import fancy
+from fancy import re
 from fancy._texts import Text, text_of
 
 
@@ -198,16 +199,57 @@ class Threads(unittest.TestCase):
             thread.join()
         self.assertEqual(failed, [])
         # a handle for each thread at most
-        self.assertLessEqual(len(pattern._programs["search"]._idle), 8)
+        self.assertLessEqual(pattern._idle, 8)
+
+    def test_long_texts_in_threads(self):
+        """Where the extension lets Python's lock go."""
+        pattern, failed = fancy.compile(r"(\d+)-(\d+)"), []
+        text = "".join(f"{number}-{number + 1} é" for number in range(500)) + " " * 20_000
+        wanted = [(str(number), str(number + 1)) for number in range(500)]
+
+        def search(number):
+            for _ in range(5):
+                spans = [it.span() for it in pattern.finditer(text)]
+                if pattern.findall(text) != wanted or pattern.sub("", text).rstrip() != " é" * 500 or len(spans) != 500:
+                    failed.append(number)
+
+        threads = [threading.Thread(target=search, args=(number,)) for number in range(4)]
+        for thread in threads:
+            thread.start()
+        for thread in threads:
+            thread.join()
+        self.assertEqual(failed, [])
+        self.assertLessEqual(pattern._idle, 4)
+
+    def test_one_iterator_in_threads(self):
+        text = "a-b " * 6000
+        for _ in range(5):
+            matches, counts = fancy.finditer(r"(\w)-(\w)", text), []
+
+            def count():
+                found = 0
+                try:
+                    found = sum(1 for _ in matches)
+                except ValueError:
+                    pass  # another thread is searching with it
+                counts.append(found)
+
+            threads = [threading.Thread(target=count) for _ in range(4)]
+            for thread in threads:
+                thread.start()
+            for thread in threads:
+                thread.join()
+            self.assertLessEqual(sum(counts), 6000)
 
     def test_calls_at_the_same_time(self):
         pattern = fancy.compile("(?<n>a)|b", find_not_empty=True)
-        program = pattern._programs["search"]
-        while program._idle:
-            program._idle.pop()
-        # with no handle that is idle there is one more copy
-        self.assertEqual(pattern.sub(r"<\g<n>>", "abc"), "<a><>c")
-        self.assertEqual(len(program._idle), 1)
+        text = "abc" * 8000
+        # a search while another stands
+        for it in pattern.finditer(text):
+            if it.start() % 1000 == 0:
+                self.assertEqual(pattern.sub(r"<\g<n>>", "abc"), "<a><>c")
+                self.assertEqual(pattern.search(text, it.start()).span(), it.span())
+        self.assertLessEqual(pattern._idle, 2)
 
     def test_memory_is_freed(self):
         def used():
@@ -245,6 +287,12 @@ class Scanners(unittest.TestCase):
         self.assertEqual(self.spans(scanner, "ab cd", 1, 4), [(1, (1, 2), None), (1, (3, 4), None)])
         self.assertEqual(self.spans(scanner, "ab", 2, 1), [])
         self.assertEqual(len(self.spans(scanner, "a " * 1000)), 1000)
+
+    def test_patterns_of_re(self):
+        scanner = fancy.Scanner([re.compile(r"(?P<n>\d)+(?(n)a|b)"), fancy.compile("b+")])
+        self.assertEqual(self.spans(scanner, "é bb 12a"), [(1, (2, 4), None), (0, (5, 8), None)])
+        self.assertEqual(scanner.search("2a").match.groupdict(), {"n": "2"})
+        self.assertRaises(TypeError, fancy.Scanner, [re.compile(b"a")])
 
     def test_without_patterns(self):
         self.assertEqual(self.spans(self.scanner(), "a"), [])
