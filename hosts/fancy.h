@@ -60,7 +60,7 @@ enum fancy_code {
     FANCY_STACK_OVERFLOW = 8,        /* of branches, 1,000,000 of them */
     FANCY_STEP_LIMIT_EXCEEDED = 9,
 
-    /* a pattern or a tree was read, and is refused */
+    /* a pattern or a tree was read, and is refused: of a pattern, byte, if one piece of it is refused */
     FANCY_NAMED_BACKREF_ONLY = 10,
     FANCY_FEATURE_NOT_YET_SUPPORTED = 11,
     FANCY_SUBROUTINE_CALL_TARGET_NOT_FOUND = 12,
@@ -189,7 +189,8 @@ struct fancy_options {
 
 struct fancy_outcome {
     uint32_t code; /* of enum fancy_code */
-    size_t byte;   /* where the pattern, the tree or the text cannot be read */
+    size_t byte;   /* where the pattern, the tree or the text cannot be read; where the piece of a pattern begins that is
+                      refused */
     size_t group;  /* the group that is not there; of fancy_scan, the pattern that exceeds a limit */
     size_t count;  /* how many groups there are, with group 0; of the calls for all matches, how many were written;
                       of fancy_replace, how many bytes the new text has */
@@ -219,7 +220,8 @@ size_t fancy_version(char *version, size_t room);
  * Errors: FANCY_WRONG_SIZE; FANCY_NOT_UTF8 at byte; a fault of the pattern at byte, FANCY_RECURSION_EXCEEDED and those from
  * FANCY_UNCLOSED_OPEN_PAREN on: where a token begins that is not allowed there, or where what follows is no token, or
  * the pattern's length if more is needed; FANCY_ANALYSIS_LIMIT_EXCEEDED; a refusal, FANCY_NAMED_BACKREF_ONLY
- * and those after it; FANCY_NEST_LIMIT_EXCEEDED; FANCY_MEMORY.
+ * and those after it, at byte if one piece is refused: the reference, the call or the class, or what the look-behind or
+ * the group begins with; FANCY_NEST_LIMIT_EXCEEDED; FANCY_MEMORY.
  *
  * What reads, compiles and frees a pattern recurses over it. A pattern nests at most 250 deep, and is read on a stack of
  * 512 kB. One level of it may be several nodes of the tree, and a call of a group is written out where it is, so nodes
@@ -389,9 +391,9 @@ size_t fancy_error_name(uint32_t code, char *name, size_t room);
  * many bytes the sentence has. The words may change from version to version: programs should use the code. */
 size_t fancy_error_message(const struct fancy_outcome *outcome, char *message, size_t room);
 
-/* Compiles the pattern once more, and writes why it has no program, in the words of fancy_error_message, and after them the
- * text of the class or the description of the group that is refused. If it has a program, the text is empty. Returns how many
- * bytes the text has. */
+/* Compiles the pattern once more, and writes why it has no program, as fancy_error_message does, but with what is refused:
+ * the name of the group, as in "at byte 3: there is no group named 'x'", or the text of the class, and what is wrong with it.
+ * If it has a program, the text is empty. Returns how many bytes the text has. */
 size_t fancy_explain_pattern(const char *pattern, size_t pattern_length, const struct fancy_options *options,
                              char *message, size_t room);
 

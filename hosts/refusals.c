@@ -258,6 +258,39 @@ static void write_messages(void)
     printf("%zu %s\n", length, message);
 }
 
+/* A refusal with its place, and why. */
+static void refuse(const char *pattern)
+{
+    compile_pattern(pattern, pattern);
+    print_message("  why", pattern);
+}
+
+/* The byte is that of the first character of the reference, the call or the class, or of what the body of a look-behind or
+ * the group begins with. No byte is known where each of several pieces may be refused. */
+static void place_refusals(void)
+{
+    refuse("(?<y>a)\\k<x>");
+    refuse("\xc3\xa9\\g<x>");
+    refuse("(?(<x>)a|b)");
+    refuse("\\k<-1>(a)");
+    refuse("(a)b\\2");
+    refuse("(a)\\g<2>");
+    refuse("(?:x|[z-a])");
+    refuse("[\\p{Nothing}]");
+    refuse("(?<=ab|c)(?<!xa+)b");
+    refuse("x(?<n>(?:\\g<n>|a)b)");
+    refuse("(a\\g<1>)");
+    refuse("(a\\g<1>)(b\\g<2>)");
+    refuse("ab(*SKIP)");
+    refuse("(a)\\k<1+0>");
+    options.longest = true;
+    refuse("ba*?");
+    options.longest = false;
+    options.named_groups_only = true;
+    refuse("(?<n>a)\\1");
+    options = fancy_default_options();
+}
+
 static void write_texts(void)
 {
     char name[4];
@@ -504,6 +537,7 @@ int main(void)
     replace_matches();
     name_groups();
     write_texts();
+    place_refusals();
     copy_programs();
     scan_texts();
     pass_limits();

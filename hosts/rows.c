@@ -39,10 +39,16 @@ void *__wrap_realloc(void *old, size_t size)
 
 #define LINE 4096
 
+/* A pattern that can be read, and is refused. The rows do not say where. */
+static bool is_refusal(uint32_t code)
+{
+    return code >= FANCY_NAMED_BACKREF_ONLY && code <= FANCY_PATTERN_TOO_COMPLEX;
+}
+
 static void write_failure(struct fancy_outcome outcome, char *line)
 {
     size_t end = fancy_error_name(outcome.code, line, LINE);
-    if (outcome.byte != FANCY_UNSET)
+    if (outcome.byte != FANCY_UNSET && !is_refusal(outcome.code))
         sprintf(line + end, " %zu", outcome.byte);
     if (outcome.group != FANCY_UNSET)
         sprintf(line + end, " %zu", outcome.group);

@@ -121,6 +121,13 @@ def build_kept(crate):
         return file, True
 
 
+def groups_of(crates, jobs):
+    """What goes into one module: all, or a half into each of two, if there are processors to make both at once."""
+    if jobs < 4 or len(crates) < 4:
+        return [crates]
+    return [crates[::2], crates[1::2]]
+
+
 def build_stale(crates, jobs, say):
     """Builds together those of several crates whose sources changed, if they are more than one. `say` gets each."""
     with ExitStack() as locks:
@@ -137,8 +144,13 @@ def build_stale(crates, jobs, say):
 
         for it in sums:
             kept(it)[1].unlink(missing_ok=True)
-        with tempfile.TemporaryDirectory(prefix="quick-build-") as folder:
-            build_together(kit_folder(), {it: kept(it)[0] for it in sums}, Path(folder), How(), jobs, note)
+        def build_group(group):
+            with tempfile.TemporaryDirectory(prefix="quick-build-") as folder:
+                build_together(kit_folder(), {it: kept(it)[0] for it in group}, Path(folder), How(), jobs, note)
+
+        groups = groups_of(list(sums), jobs)
+        with ThreadPoolExecutor(len(groups)) as workers:
+            list(workers.map(build_group, groups))
 
 
 def build_all(crates, jobs, say):

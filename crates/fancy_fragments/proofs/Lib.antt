@@ -9,5 +9,4 @@ pub mod GroupRanges
 pub mod DelegateParts
 pub mod SameTrees
 pub mod LeadingLaws
-pub mod StartFilterLaws
 pub mod ThreadsLaws

@@ -1,16 +1,10 @@
--- Fragments and start filters may go to other threads, and several may use one fragment at once.
+-- Fragments may go to other threads, and several may use one fragment at once.
 use denote.Param.Send.{IsSend, IsSync, sendable}
 use Rattle.std.proofs.Crossing as std
-use Rattle.regex_dfa.proofs.dfa.Dfa.TheSendSync as dfa
-use Rattle.regex_dfa.proofs.forward.Forward.TheSendSync as forward
-use Rattle.regex_dfa.proofs.reverse.Reverse.TheSendSync as reverse
-use Rattle.fancy_automaton.specs.contracts.automaton.Automaton as Automaton
-use Rattle.fancy_automaton.specs.contracts.automaton.Cache as Cache
 use Rattle.fancy_expr.proofs.expr.Absent.TheLaws.TheKnot as expr
 use Rattle.fancy_plain.proofs.ThreadsLaws.{nfa_sends, nfa_syncs}
 use Rattle.fancy_fragments.specs.contracts.fragment.Fragment as Fragment
 use Rattle.fancy_fragments.specs.contracts.delegate.Delegate as Delegate
-use Rattle.fancy_fragments.specs.contracts.start_filter.StartFilter as StartFilter
 
 -- each type in turn, since a `search` through all of them at once runs out of steps
 fragment_sends : IsSend Fragment.the_field.row
@@ -24,12 +18,3 @@ fragment_syncs = search (nfa_syncs, std.crosses, expr.crosses, sendable) depth 6
 
 pub delegate_syncs : IsSync Delegate.the_field.row
 delegate_syncs = search (fragment_syncs, std.crosses, sendable) depth 60 fits 20000
-
-automaton_sends : IsSend Automaton.the_field.row
-automaton_sends = search (dfa.the_field_send, std.crosses, sendable) depth 60 fits 20000
-
-cache_sends : IsSend Cache.the_field.row
-cache_sends = search (forward.the_field_send, reverse.the_field_send, std.crosses, sendable) depth 60 fits 20000
-
-pub start_filter_sends : IsSend StartFilter.the_field.row
-start_filter_sends = search (automaton_sends, cache_sends, std.crosses, expr.crosses, sendable) depth 60 fits 20000

@@ -4,4 +4,3 @@ pub mod Nodes
 pub mod Fragments
 pub mod Delegates
 pub mod Leading
-pub mod StartFilters

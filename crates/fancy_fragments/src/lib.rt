@@ -8,4 +8,3 @@ pub mod fragment;
 pub mod leading;
 mod same;
 mod settable;
-pub mod start_filter;

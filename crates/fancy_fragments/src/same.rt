@@ -60,22 +60,6 @@ fn exprs_differ(exprs: &[Expr], infos: &[Info]) -> bool
     false
 }
 
-/// These are the same trees. It may say no where they are, but not of easy nodes and copies of them.
-pub(crate) fn are_alike(exprs: &[Expr], others: &[Expr]) -> bool
-    ensures { result ≡ true → map tree_of exprs.now ≡ map tree_of others.now }
-{
-    let count = exprs.len();
-    if others.len() != count {
-        return false;
-    }
-    for i in 0..count {
-        if differs(&exprs[i], &others[i]) {
-            return false;
-        }
-    }
-    true
-}
-
 /// The trees are not the same.
 #[cycle(comparing)]
 fn differs(expr: &Expr, other: &Expr) -> bool

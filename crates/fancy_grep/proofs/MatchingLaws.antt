@@ -1,5 +1,5 @@
 -- The lines that are selected, one after the other.
-use Rattle.std.proofs.Common.{◌≡◌, inl, inr, ℕ, suc, ◌≤◌, Bool, false, Bor, IfSome, Option, Some, None, is_some, option_map, List, [], ◌∷◌, ◌++◌, map, append_assoc, append-nil, Result, Ok, Err, refl, sym, ap, subst, ◌∙◌, arith}
+use Rattle.std.proofs.Common.{◌≡◌, inl, inr, ℕ, suc, ◌≤◌, Bool, false, true, Bor, IfSome, Option, Some, None, is_some, option_map, List, [], ◌∷◌, ◌++◌, map, append_assoc, append-nil, Result, Ok, Err, refl, sym, ap, subst, ◌∙◌, arith}
 use Rattle.std.proofs.lemmas.List.{map-append}
 use Rattle.std.proofs.lemmas.List.Elements.{filter-append}
 use Rattle.std.proofs.lemmas.Option.{none-some, same_Some}
@@ -15,7 +15,7 @@ use Rattle.fancy_regex.specs.declared.error.Error.{Error}
 use Rattle.fancy_regex.specs.declared.regexes.Regex.{Regex}
 use Rattle.fancy_grep.specs.Context.{AreRising, numbers_of}
 use Rattle.fancy_grep.specs.Lines.{Line, line_of, lines, lines_of}
-use Rattle.fancy_grep.specs.Matching.{Grows, Helps, IsRegexFor, StopsAt, TakesLine, TellsMatch, has_match, is_selected, selected}
+use Rattle.fancy_grep.specs.Matching.{Grows, Helps, IsRegexFor, LeavesFrom, StopsAt, TakesLine, TellsMatch, has_match, is_selected, selected}
 use Rattle.fancy_grep.specs.Occurrences.{sought, sought_in}
 use Rattle.fancy_grep.specs.Standing.{IsLineIn}
 use Rattle.fancy_grep.specs.declared.occurrences.Occurrences.{Occurrences}
@@ -87,7 +87,7 @@ module _ (i : Input) (o : List ℕ → plain.RunOptions) (inverted : Bool) where
 
 -- this is required, if something is
 abbrev pub IsRequiredOf : Input → Option (Bor Required) → Type 0
-IsRequiredOf i required = IfSome required (λ r. IsRequired (required_of r.now) i)
+IsRequiredOf i required = IfSome required (λ r. IsRequired (required_of r.now) true i)
 
 -- it is looked for in this text
 abbrev pub IsSoughtIn : Option (Bor Required) → List ℕ → Option Occurrences → Type 0
@@ -99,12 +99,12 @@ helps i line text required None same is_required is = tt
 helps i line text None (Some s) same is_required is = absurd (none-some (sought s) (sym same))
 helps i line text (Some r) (Some s) same is_required is =
     let both = same_Some (sought s) (required_of r.now, text) same in (
-      subst (λ p. IsRequired p i) (sym (ap (λ p. p.0) both)) is_required,
+      subst (λ p. IsRequired p true i) (sym (ap (λ p. p.0) both)) is_required,
       subst (λ t. IsLineIn t (line_of line)) (sym (ap (λ p. p.1) both)) is,
     )
 
 -- a line that is not searched has no match
-pub has_no_match : (i : Input) (o : List ℕ → plain.RunOptions) (r : plain_required.Required) (line : List ℕ) → IsRequired r i → Lacks r line →
+pub has_no_match : (i : Input) (o : List ℕ → plain.RunOptions) (r : plain_required.Required) (line : List ℕ) → IsRequired r true i → Lacks r line →
     has_match i o line ≡ false
 has_no_match i o r line required lacks = ap is_some (required line (begun_at (o line) 0) lacks)
 
@@ -188,6 +188,19 @@ module _ (r : Regex) (required : Option (Bor Required)) (inverted : Bool) (text 
 
     pub stopped_same : (e : Error) → Took s now inverted line lines (Err e) more t after → IsSame r t
     stopped_same e took = is_same_still r s t h.same took.same
+
+  -- from this line on nothing is searched
+  pub left_from : (lines : List code.Line) (s : Regex) (now : Option Occurrences) (line : code.Line) (rest : List Line) →
+      Searched r required inverted text lines s now (line_of line ∷ rest) → (i : Input) (o : List ℕ → plain.RunOptions) → IsRegexFor i o r →
+      IsRequiredOf i required → LeavesFrom i o inverted text (map line_of lines) line.number
+  left_from lines s now line rest h i o is required = record {
+    before = h.before;
+    line = line_of line;
+    after = rest;
+    split = h.split;
+    at = refl;
+    selects = h.selects i o is required;
+  }
 
   module _ (lines : List code.Line) (s : Regex) (now : Option Occurrences) (left : List Line) where
     pub searched_all : Searched r required inverted text lines s now left → left ≡ [] → (i : Input) (o : List ℕ → plain.RunOptions) →

@@ -98,7 +98,7 @@ module _ (r : Required) (text : List ℕ) (from next : ℕ) (l : Line) (none : S
       (stands_in_part r text l.text is.after i (l.start + i) there h)
 
   pub line_lacks : Lacks r l.text
-  line_lacks i h =
+  line_lacks i any h =
       ⊎_elim
       (λ (lt : length l.text < i). stands_not 0 (omega arith) (stands_first r l.text i lt h))
       (λ (ge : i ≤ length l.text). stands_not i ge h)

@@ -10,7 +10,7 @@ use Rattle.fancy_grep.specs.declared.patterns.Matcher.{Matcher}
 
 -- this is required of the tree, which is compiled with `unicode`, if something is
 abbrev pub IsRequiredIn : ExprTree → Option Required → Type 0
-IsRequiredIn tree required = IfSome required (λ r. IsRequiredOf (required_of r) true (tree_of tree.expr))
+IsRequiredIn tree required = IfSome required (λ r. IsRequiredOf (required_of r) true true (tree_of tree.expr))
 
 -- The regex is that of the pattern, and what is looked for is required of the tree that this spells.
 pub record IsMatcherOf (pattern : List ℕ) (o : RegexOptions) (m : Matcher) : Type 0 where

@@ -1,5 +1,5 @@
 -- Which lines of a text are selected: those in which there is a match, by what the engine promises of a search.
-use Rattle.std.specs.Prelude.{◌≡◌, ◌⊎◌, ℕ, Bool, not, List, [], ◌∷◌, ◌++◌, map, filter, IfSome, MatchOption, Option, Result, Ok, Err, is_some, if◌then◌else◌}
+use Rattle.std.specs.Prelude.{◌≡◌, ◌⊎◌, ℕ, Bool, true, not, List, [], ◌∷◌, ◌++◌, map, filter, IfSome, MatchOption, Option, Result, Ok, Err, is_some, if◌then◌else◌}
 use Rattle.fancy_meaning.specs.Answer.{answer, search_of}
 use Rattle.fancy_meaning.specs.Options as plain
 use Rattle.fancy_meaning.specs.Premises.{Input, plan}
@@ -13,6 +13,8 @@ use Rattle.fancy_grep.specs.Needles.{needle_of}
 use Rattle.fancy_grep.specs.Standing.{IsLineIn}
 use Rattle.fancy_grep.specs.declared.occurrences.Occurrences.{Occurrences}
 use Rattle.fancy_grep.specs.declared.lines.Line as code
+use Rattle.fancy_grep.specs.declared.matching.Cause.{Cause}
+use Rattle.fancy_grep.specs.declared.matching.Cause.TheVariants as cause
 use Rattle.fancy_grep.specs.declared.matching.MatchingLines.{MatchingLines}
 
 -- the regex was compiled from this tree, and its searches have these options in each text
@@ -29,7 +31,7 @@ Grows line before after = (after ≡ before) ⊎ (after ≡ before ++ line ∷ [
 
 -- What is looked for is required, and the line stands in the text in which it is looked for.
 abbrev pub Helps : Input → code.Line → Option Occurrences → Type 0
-Helps i line looked_for = IfSome looked_for (λ s. IsRequired (needle_of s.needle) i × IsLineIn s.text.now (line_of line))
+Helps i line looked_for = IfSome looked_for (λ s. IsRequired (needle_of s.needle) true i × IsLineIn s.text.now (line_of line))
 
 module _ (i : Input) (o : List ℕ → plain.RunOptions) where
   -- the tree has an admitted match in the line, as a text of its own
@@ -67,8 +69,23 @@ module _ (i : Input) (o : List ℕ → plain.RunOptions) where
     pub selects : lines ≡ selected inverted before
     pub fails : FailsOn line.text e
 
-  -- These lines of the text are selected: of all, or of those before the one on which the search fails.
-  abbrev pub Selects : Bool → List ℕ → MatchingLines → Type 0
-  Selects inverted text found = MatchOption found.failure
+  -- From a line on nothing is searched, and of the lines before it these are selected.
+  pub record LeavesFrom (inverted : Bool) (text : List ℕ) (lines : List Line) (number : ℕ) : Type 0 where
+    pub before : List Line
+    pub line : Line
+    pub after : List Line
+    pub split : lines_of text ≡ before ++ line ∷ after
+    pub at : number ≡ line.number
+    pub selects : lines ≡ selected inverted before
+
+  -- Why the lines end there: the search of that line fails, or nothing is left of the budget.
+  abbrev pub EndsAt : Bool → List ℕ → List Line → (left number : ℕ) → Cause → Type 0
+  EndsAt inverted text lines left number (cause.Search e) = StopsAt inverted text lines number e
+  EndsAt inverted text lines left number cause.UsedUp = (left ≡ 0) × LeavesFrom inverted text lines number
+
+  -- These lines of the text are selected: of all, or of those before the one at which the search ends. So much is left of
+  -- the budget then.
+  abbrev pub Selects : Bool → List ℕ → (left : ℕ) → MatchingLines → Type 0
+  Selects inverted text left found = MatchOption found.failure
       (map line_of found.lines.items ≡ selected inverted (lines_of text))
-      (λ f. StopsAt inverted text (map line_of found.lines.items) f.number f.error)
+      (λ f. EndsAt inverted text (map line_of found.lines.items) left f.number f.cause)

@@ -1,17 +1,19 @@
 //! A search of files, folders and standard input.
 
 use crate::excerpt::push_excerpt;
-use crate::matching::Failure;
+use crate::matching::{Cause, Failure};
 use crate::output::Output;
 use crate::patterns::{Extent, Matcher, PatternOptions, matcher_of};
 use crate::reports::{Part, Search};
 use crate::settings::{Report, Settings};
+use fancy_faults::fault::{Fault, fault_of};
+use fancy_info::context::AnalyzeContext;
 use fancy_input::blocks::{BlockError, Blocks};
 use fancy_input::marks::TextReader;
 use fancy_input::pieces::{Piece, read_as, split_piece};
 use fancy_pattern::pattern::parse_tree;
-use fancy_regex::Error;
-use std::alloc::AllocError;
+use fancy_regex::{CompileError, Error};
+use std::alloc::{AllocError, Global};
 use std::fs::{DirEntry, File};
 use std::io::{ErrorKind, Read};
 use std::{fs, io};
@@ -83,11 +85,12 @@ impl<'r> Run<'r> {
         self.has_failed = true;
         self.out.flush();
         let number = failure.number;
-        let error = &failure.error;
-        let _unwritten = if number == 0 {
-            eprintln!(self.rt; "fancygrep: {name}: {error}")
-        } else {
-            eprintln!(self.rt; "fancygrep: {name}: line {number}: {error}")
+        let _unwritten = match &failure.cause {
+            Cause::Search(error) if number == 0 => eprintln!(self.rt; "fancygrep: {name}: {error}"),
+            Cause::Search(error) => eprintln!(self.rt; "fancygrep: {name}: line {number}: {error}"),
+            Cause::UsedUp => eprintln!(self.rt;
+                "fancygrep: {name}: line {number}: the searches of this file take too much, so lines from this one on were not searched"
+            ),
         };
     }
 
@@ -108,7 +111,7 @@ impl<'r> Run<'r> {
                 None => return true,
                 Some((failure, rest)) => {
                     self.fail_search(name, &failure);
-                    if !matches!(failure.error, Error::Memory) {
+                    if !matches!(failure.cause, Cause::Search(Error::Memory)) {
                         return false;
                     }
                     left = rest;
@@ -140,7 +143,7 @@ impl<'r> Run<'r> {
 
     /// Searches a block of a file, and returns whether the search goes on.
     fn search_block(&mut self, search: &mut Search<'_>, name: &str, block: &[u8]) -> bool {
-        search.pass_zeros(block);
+        search.read(block);
         let mut left = block;
         for _ in 0..block.len() {
             if left.is_empty() {
@@ -324,16 +327,62 @@ fn is_folder(rt: &HostRuntime, path: &str) -> bool {
     }
 }
 
-/// The error of a pattern that was searched for with what is put around it, and the place of the fault in the pattern as it
-/// was given.
-fn placed(pattern: &str, options: PatternOptions, error: Error) -> (Error, Option<usize>) {
+/// Why a pattern is refused, in words, and the place in the pattern as it was given, if there is one.
+#[derive(Drop)]
+struct Refusal {
+    text: String,
+    place: Option<usize>,
+}
+
+/// What is said of a pattern that can be read and is refused.
+fn refusal_of(
+    alloc: Global,
+    pattern: &str,
+    options: PatternOptions,
+    refused: &CompileError,
+) -> Result<Refusal, AllocError> {
+    let context = AnalyzeContext {
+        leftmost_longest: options.longest,
+        ..AnalyzeContext::default()
+    };
+    let Fault { at, message } = fault_of(alloc, pattern, options.parsing(), context, refused)?;
+    let Some(byte) = at else {
+        return Ok(Refusal {
+            text: message,
+            place: None,
+        });
+    };
+    let why = message.as_str();
+    Ok(Refusal {
+        text: format!(in alloc; "at byte {byte}: {why}")?,
+        place: Some(byte),
+    })
+}
+
+/// What is said of the error of a pattern that was searched for with what is put around it.
+fn described(
+    alloc: Global,
+    pattern: &str,
+    options: PatternOptions,
+    error: &Error,
+) -> Result<Refusal, AllocError> {
     match error {
         Error::ParseError(at, kind) => {
             let (before, _) = options.extent.around();
             let at = at.saturating_sub(before.len()).min(pattern.len());
-            (Error::ParseError(at, kind), Some(at))
+            let error = Error::ParseError(at, *kind);
+            Ok(Refusal {
+                text: format!(in alloc; "{error}")?,
+                place: Some(at),
+            })
         }
-        error => (error, None),
+        Error::CompileError(refused) if !options.is_text => {
+            refusal_of(alloc, pattern, options, refused)
+        }
+        error => Ok(Refusal {
+            text: format!(in alloc; "{error}")?,
+            place: None,
+        }),
     }
 }
 
@@ -356,9 +405,10 @@ fn refuse(
     options: PatternOptions,
     error: Error,
 ) -> Result<u8, AllocError> {
-    let (error, place) = placed(pattern, options, error);
-    let mut text = format!(in rt.alloc(); "fancygrep: the pattern is refused: {error}")?;
-    if let Some(at) = place {
+    let refusal = described(rt.alloc(), pattern, options, &error)?;
+    let why = refusal.text.as_str();
+    let mut text = format!(in rt.alloc(); "fancygrep: the pattern is refused: {why}")?;
+    if let Some(at) = refusal.place {
         push_excerpt(&mut text, pattern, at)?;
     }
     let _unwritten = eprintln!(rt; "{text}");

@@ -2,6 +2,7 @@
 #![tactic(auto)]
 
 pub mod around;
+pub mod budget;
 pub mod context;
 pub mod excerpt;
 pub mod files;

@@ -1,6 +1,6 @@
 //! The lines in which a regex has a match.
 
-ghost use Rattle.std.specs.Prelude.{◌≡◌, false, ℕ, IfSome, List, option_map, string_bytes};
+ghost use Rattle.std.specs.Prelude.{◌≡◌, false, true, ℕ, IfSome, List, option_map, string_bytes};
 ghost use Rattle.fancy_meaning.specs.Options as plain;
 ghost use Rattle.fancy_meaning.specs.Premises.{Input};
 ghost use Rattle.fancy_regex.specs.Regexes.{IsSame};
@@ -9,21 +9,41 @@ ghost use Rattle.fancy_literals.specs.Required.{IsRequired, required_of};
 ghost use Rattle.fancy_grep.specs.Matching.{Grows, Helps, IsRegexFor, Selects, TakesLine, TellsMatch, has_match, is_chosen};
 ghost use Rattle.fancy_grep.specs.Occurrences.{sought_in};
 
+use crate::budget::Budget;
 use crate::lines::{Line, Lines};
 use crate::occurrences::Occurrences;
 use fancy_literals::required::Required;
 use fancy_regex::{Error, Regex};
 use std::alloc::Global;
 
-/// A search of a line that has no answer.
+/// Why the search of a text ends at a line.
+#[derive(Drop)]
+pub enum Cause {
+    /// The search of the line failed.
+    Search(Error),
+    /// The searches of the lines before it used the budget up, and it was not searched.
+    UsedUp,
+}
+
+/// A line at which the search of a text ends.
 #[derive(Drop)]
 pub struct Failure {
     /// The number of the line.
     pub number: usize,
-    pub error: Error,
+    pub cause: Cause,
 }
 
-/// The lines of a text that are selected, in order: all of them, or those before the line on which a search failed.
+impl Failure {
+    /// How many lines were searched up to here, with the one that failed.
+    pub(crate) fn searched(&self) -> usize {
+        match self.cause {
+            Cause::Search(_) => self.number,
+            Cause::UsedUp => self.number.saturating_sub(1),
+        }
+    }
+}
+
+/// The lines of a text that are selected, in order: all of them, or those before the line at which the search ended.
 #[derive(Drop)]
 pub struct MatchingLines<'t> {
     pub lines: Vec<Line<'t>>,
@@ -52,11 +72,13 @@ fn may_match(sought: &mut Option<Occurrences<'_, '_>>, line: Line<'_>) -> bool
     }
 }
 
-/// Whether a line has a match. It is not searched if what is looked for is not in it.
+/// Whether a line has a match. It is not searched if what is looked for is not in it; else the budget is less by what the
+/// search did.
 fn has_match(
     regex: &mut Regex,
     sought: &mut Option<Occurrences<'_, '_>>,
     line: Line<'_>,
+    budget: &mut Budget,
 ) -> Result<bool, Error>
     ensures promise { (i : Input)
         → (o : List ℕ → plain.RunOptions)
@@ -67,7 +89,9 @@ fn has_match(
     ensures same { IsSame regex.old regex.new }
 {
     if may_match(sought, line) {
-        regex.is_match(line.text)
+        let found = regex.is_match(line.text);
+        budget.spend(regex.work());
+        found
     } else {
         Ok(false)
     }
@@ -80,6 +104,7 @@ fn take<'t>(
     sought: &mut Option<Occurrences<'_, '_>>,
     line: Line<'t>,
     inverted: bool,
+    budget: &mut Budget,
 ) -> Result<(), Error>
     ensures promise { (i : Input)
         → (o : List ℕ → plain.RunOptions)
@@ -90,7 +115,7 @@ fn take<'t>(
     ensures sought { sought_in sought.new ≡ sought_in sought.old }
     ensures same { IsSame regex.old regex.new }
 {
-    let found = has_match(regex, sought, line)?;
+    let found = has_match(regex, sought, line, budget)?;
     if is_chosen(inverted, found) {
         lines.push(line)?;
     }
@@ -101,30 +126,37 @@ fn take<'t>(
 ///
 /// Each line is searched as a text of its own, without its `\n`. Where it is known what each match takes, this is looked
 /// for in the whole text, and the lines without it are not searched. An error of a search, or out of memory, ends
-/// the list at that line.
+/// the list at that line. So does a budget that the searches of the lines before it used up.
 pub fn matching_lines<'t>(
     alloc: Global,
     regex: &mut Regex,
     required: Option<&Required>,
     text: &'t str,
     inverted: bool,
+    budget: &mut Budget,
 ) -> MatchingLines<'t>
     ensures promise { (i : Input)
         → (o : List ℕ → plain.RunOptions)
         → IsRegexFor i o regex.old
-        → IfSome required.entry (λ r. IsRequired (required_of r.now) i)
-        → Selects i o inverted text.now result }
+        → IfSome required.entry (λ r. IsRequired (required_of r.now) true i)
+        → Selects i o inverted text.now budget.new.left result }
     ensures rising { AreRising 1 (numbers_of result.lines.items) }
     ensures same { IsSame regex.old regex.new }
 {
     let mut lines = Vec::new(alloc);
     let mut occurrences = occurrences_of(required, text);
     for line in Lines::new(text) {
-        if let Err(error) = take(&mut lines, regex, &mut occurrences, line, inverted) {
-            let failure = Some(Failure {
-                number: line.number,
-                error,
-            });
+        let number = line.number;
+        if budget.is_used_up() {
+            let cause = Cause::UsedUp;
+            return MatchingLines {
+                lines,
+                failure: Some(Failure { number, cause }),
+            };
+        }
+        if let Err(error) = take(&mut lines, regex, &mut occurrences, line, inverted, budget) {
+            let cause = Cause::Search(error);
+            let failure = Some(Failure { number, cause });
             return MatchingLines { lines, failure };
         }
     }

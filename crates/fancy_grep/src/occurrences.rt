@@ -36,8 +36,8 @@ impl<'n> Needle<'n> {
         ensures { needle_of result ≡ required_of required.entry.now }
     {
         match required {
-            Required::Literal(literal) => Needle::Literal(Finder::new(literal.as_bytes())),
-            Required::OneOf(bytes) => Needle::OneOf(bytes),
+            Required::Literal(literal) => Needle::Literal(literal.as_ref()),
+            Required::OneOf(set) => Needle::OneOf(&set.bytes),
         }
     }
 

@@ -226,7 +226,7 @@ fn required_in(
         → IsRequiredIn tree required) }
 {
     match parse_tree(alloc, pattern, options.parsing()) {
-        Ok(tree) => required_by(alloc, &tree.expr, true),
+        Ok(tree) => required_by(alloc, &tree.expr, true, true),
         Err(PatternError::Memory) => Err(AllocError),
         Err(PatternError::Parse { .. }) => Ok(None),
     }

@@ -3,9 +3,10 @@
 ghost use Rattle.fancy_grep.specs.Context.{AreRising, numbers_of};
 
 use crate::around::{Around, skip_lines};
+use crate::budget::Budget;
 use crate::context::{Context, Shown, with_context};
 use crate::lines::Line;
-use crate::matching::{Failure, MatchingLines, matching_lines};
+use crate::matching::{Cause, Failure, MatchingLines, matching_lines};
 use crate::output::Output;
 use crate::patterns::Matcher;
 use crate::printing::{MATCH, NAME, SEPARATOR, Style, push_name, push_painted, push_prefix};
@@ -49,6 +50,9 @@ impl<'t> Part<'t> {
 
     /// The first `count` of these lines, and the others.
     fn split(self, count: usize) -> (Part<'t>, Part<'t>) {
+        if count == 0 {
+            return (Part::of_text(""), self);
+        }
         let place = self
             .text
             .len()
@@ -125,6 +129,8 @@ pub struct Search<'s> {
     /// How many of them are selected.
     selected: usize,
     around: Around,
+    /// What the searches of its lines may still do together.
+    budget: Budget,
     /// A zero byte was read.
     pub is_binary: bool,
     /// A line was selected since, and is not written.
@@ -141,6 +147,7 @@ impl<'s> Search<'s> {
             passed: 0,
             selected: 0,
             around: Around::new(alloc),
+            budget: Budget::new(),
             is_binary: false,
             is_untold: false,
         }
@@ -158,8 +165,10 @@ impl<'s> Search<'s> {
             || (report.has_lines() && self.is_untold)
     }
 
-    /// Notes whether these bytes of the file have a zero, which makes it a binary file, unless it is searched as a text.
-    pub fn pass_zeros(&mut self, bytes: &[u8]) {
+    /// Notes that these bytes of the file were read: its lines may take more, and with a zero it is a binary file, unless it
+    /// is searched as a text.
+    pub fn read(&mut self, bytes: &[u8]) {
+        self.budget.allow(bytes.len());
         self.is_binary = self.is_binary || (!self.settings.is_text && memchr(0, bytes).is_some());
     }
 
@@ -195,11 +204,12 @@ impl<'s> Search<'s> {
             matcher.required.as_ref(),
             part.text,
             self.settings.inverted,
+            &mut self.budget,
         );
         let Some(failure) = failure else {
             return self.write(out, &mut matcher.regex, part, part, &lines);
         };
-        let (first, rest) = part.split(failure.number);
+        let (first, rest) = part.split(failure.searched());
         let failed = self.failed(failure, rest);
         match self.write(out, &mut matcher.regex, part, first, &lines) {
             None => failed,
@@ -240,8 +250,8 @@ impl<'s> Search<'s> {
             0 => 0,
             number => self.passed.saturating_add(number),
         };
-        let error = failure.error;
-        Some((Failure { number, error }, rest))
+        let cause = failure.cause;
+        Some((Failure { number, cause }, rest))
     }
 
     /// Writes what is asked for of these lines, of which these are selected.
@@ -314,7 +324,10 @@ fn lines_to<'l, 't>(lines: &'l [Line<'t>], number: usize) -> &'l [Line<'t>] {
 fn fail_at(number: usize, pushed: Result<(), Error>) -> Result<(), Failure> {
     match pushed {
         Ok(()) => Ok(()),
-        Err(error) => Err(Failure { number, error }),
+        Err(error) => Err(Failure {
+            number,
+            cause: Cause::Search(error),
+        }),
     }
 }
 
@@ -324,7 +337,7 @@ fn fail_for_memory(number: usize, pushed: Result<(), AllocError>) -> Result<(), 
         Ok(()) => Ok(()),
         Err(_) => Err(Failure {
             number,
-            error: Error::Memory,
+            cause: Cause::Search(Error::Memory),
         }),
     }
 }

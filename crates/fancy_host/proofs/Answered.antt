@@ -25,7 +25,7 @@ use Rattle.fancy_host.specs.declared.searches.Searcher.{Searcher}
 use Rattle.fancy_host.specs.declared.tree.CompiledTree.{CompiledTree}
 use Rattle.fancy_host.specs.declared.outcome.FancyOutcome.{FancyOutcome}
 use Rattle.fancy_host.specs.Codes.{no_program, unfit, wrong_size}
-use Rattle.fancy_host.specs.Hosted.{Answers, Compiles, FailsToCompile, FindsFirst, IsFlat, IsMadeFrom, IsMadeOf, IsNoSearch, IsNoText, IsPromised, IsRead, IsSearch, Source, analysis, asked_of, bytes_of, coded, compilation, compiled, compiled_of, does_not_fit, fails, for_no_tree, found, groups, has_another_size, has_size, holds, is_no_text, not_utf8, parsing, pattern, running, tree_of}
+use Rattle.fancy_host.specs.Hosted.{Answers, Compiles, FailsToCompile, FindsFirst, IsFlat, IsMadeFrom, IsMadeOf, IsNoSearch, IsNoText, IsPromised, IsRead, IsSearch, Source, analysis, asked_of, bytes_of, coded, compilation, compiled, compiled_of, does_not_fit, fails, for_no_tree, found, groups, has_another_size, has_size, holds, is_no_text, not_utf8, parsing, pattern, pattern_in, running, tree_of}
 
 -- where nothing is said to be, there is nothing
 pub none_there : {X : Type 0} → (m : Option X) (b : Bool) → is_some m ≡ b → b ≡ false → m ≡ None
@@ -79,12 +79,12 @@ read_so bytes o t text p same as_parsed h =
     (subst (λ q. spelling.IsTreeOf q (chars text) t × IsWellFormedTree t) as_parsed h)
 
 -- a tree that is read is compiled from its source, or that fails
-pub made_so : {B : Type 0} (source : Source) (o : FancyOptions) (t : ExprTree) → IsRead source o t → (value : B → CompiledTree)
-    (result : Result B FancyOutcome) →
-    MatchResult result (λ b. IsMadeOf t o (value b)) (λ outcome. (s : Source) → IsRead s o t → FailsToCompile o s outcome) →
+pub made_so : {B : Type 0} (source : Source) (o : FancyOptions) (t : ExprTree) → IsRead source o t → (p : Option (List ℕ)) → pattern_in source ≡ p →
+    (value : B → CompiledTree) (result : Result B FancyOutcome) →
+    MatchResult result (λ b. IsMadeOf t o (value b)) (λ outcome. (s : Source) → IsRead s o t → pattern_in s ≡ p → FailsToCompile o s outcome) →
     MatchResult result (λ b. IsMadeFrom source o (value b)) (λ outcome. FailsToCompile o source outcome)
-made_so source o t read value (Ok b) h = record { tree = t; read = read; made = h }
-made_so source o t read value (Err outcome) h = h source read
+made_so source o t read p of_it value (Ok b) h = record { tree = t; read = read; made = h }
+made_so source o t read p of_it value (Err outcome) h = h source read of_it
 
 -- ---- the cases of the calls
 

@@ -71,4 +71,4 @@ module _ (bytes : List ℕ) (o : FancyOptions) (s t : Option Scanner) (outcome :
 
   pub lacks_memory : HoldsSame s t → outcome ≡ coded memory → Adds bytes o s t outcome
   lacks_memory same says =
-      subst (Adds bytes o s t) (sym says) (keeps (fails rule.size rule.utf8 (refused rule.tree error.Memory rule.read rule.analysed_within tt)) same)
+      subst (Adds bytes o s t) (sym says) (keeps (fails rule.size rule.utf8 (refused rule.tree error.Memory rule.read rule.analysed_within tt refl)) same)

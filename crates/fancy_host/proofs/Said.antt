@@ -1,7 +1,24 @@
 -- A text that is made is what is to be said.
-use Rattle.std.proofs.Common.{◌≡◌, ℕ, List, IfOk, Result, Ok, Err, sym, subst}
+use Rattle.std.proofs.Common.{◌≡◌, ℕ, List, IfOk, Result, Ok, Err, refl, sym, ap, subst}
+use Rattle.fancy_expr.specs.declared.error.CompileError.{CompileError}
+use Rattle.fancy_expr.specs.declared.error.Error.{Error}
+use Rattle.fancy_expr.specs.declared.error.Error.TheVariants as error
+use Rattle.fancy_host.specs.Hosted.{failure}
+use Rattle.fancy_host.specs.Messages.{IsExplanation, message}
+use Rattle.fancy_host.specs.declared.outcome.FancyOutcome.{FancyOutcome}
 
 pub said_by : {X E : Type 0} (r : Result X E) (bytes : X → List ℕ) (m : List ℕ) (IsRight : List ℕ → Type 0) → IfOk r (λ x. bytes x ≡ m) →
     IsRight m → IfOk r (λ x. IsRight (bytes x))
 said_by (Ok x) bytes m IsRight is right = subst IsRight (sym is) right
 said_by (Err e) bytes m IsRight is right = tt
+
+pub told_by : {X E : Type 0} (r : Result X E) (bytes : X → List ℕ) (Is IsRight : List ℕ → Type 0) → IfOk r (λ x. Is (bytes x)) →
+    ((text : List ℕ) → Is text → IsRight text) → IfOk r (λ x. IsRight (bytes x))
+told_by (Ok x) bytes Is IsRight is right = right (bytes x) is
+told_by (Err e) bytes Is IsRight is right = tt
+
+-- an error that is no refusal is explained by what its outcome says
+pub otherwise : (bytes : List ℕ) (e : Error) (outcome : FancyOutcome) → ((refused : CompileError) → e ≡ error.CompileError refused → ⊥) →
+    outcome ≡ failure e → IsExplanation bytes e (message outcome)
+otherwise bytes (error.CompileError refused) outcome other is = absurd (other refused refl)
+otherwise bytes e outcome other is = ap message is

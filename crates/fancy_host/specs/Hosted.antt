@@ -26,6 +26,7 @@ use Rattle.fancy_expr.specs.declared.error.CompileError.TheVariants as refusal
 use Rattle.fancy_expr.specs.declared.expr.ExprTree.{ExprTree}
 use Rattle.fancy_expr.specs.Sound.{IsWellFormedTree}
 use Rattle.fancy_expr.specs.Views as views
+use Rattle.fancy_faults.specs.Faults.{IsPlaceIn}
 use Rattle.fancy_analysis.specs.AnalysisLimit.{analysis_nodes}
 use Rattle.fancy_analysis.specs.Names as analysis_names
 use Rattle.fancy_info.specs.declared.context.AnalyzeContext.{AnalyzeContext}
@@ -175,6 +176,18 @@ abbrev pub failure_by : (passed : Option SearchLimit) → Error → FancyOutcome
 failure_by None e = failure e
 failure_by (Some limit) e = coded (code_of_limit limit)
 
+-- the outcome with this byte, if there is one
+abbrev pub at_place : Option ℕ → FancyOutcome → FancyOutcome
+at_place None outcome = outcome
+at_place (Some at) outcome = record outcome { byte = at }
+
+-- The outcome of an error of what was read, of this pattern if it is one: a refusal of a pattern has the byte where the
+-- piece begins that is refused, if it is one piece.
+abbrev pub IsFailureFor : Option (List ℕ) → Error → FancyOutcome → Type 0
+IsFailureFor (Some text) (error.CompileError refused) outcome =
+    (at : Option ℕ) × (IsPlaceIn text at × (outcome ≡ at_place at (failure (error.CompileError refused))))
+IsFailureFor pattern e outcome = outcome ≡ failure e
+
 -- why a pattern cannot be read, with the byte
 abbrev pub pattern_failure : PatternError → FancyOutcome
 pattern_failure (of_parser.Parse at kind) = record (coded (code_of_kind kind)) { byte = at }
@@ -253,6 +266,11 @@ abbrev pub bytes_of : Source → List ℕ
 bytes_of (notation text) = text
 bytes_of (pattern text) = text
 
+-- the pattern, if it is one
+abbrev pub pattern_in : Source → Option (List ℕ)
+pattern_in (notation text) = None
+pattern_in (pattern text) = Some text
+
 -- the tree that it spells
 abbrev pub IsRead : Source → FancyOptions → ExprTree → Type 0
 IsRead (notation text) o t =
@@ -294,8 +312,9 @@ pub data FailsToCompile (o : FancyOptions) : Source → FancyOutcome → Type 0 
       FailsToCompile o (pattern text) (pattern_failure e)
   unanalysed : {source : Source} {outcome : FancyOutcome} (t : ExprTree) → IsRead source o t → IsUnanalysed t o outcome →
       FailsToCompile o source outcome
-  refused : {source : Source} (t : ExprTree) (e : Error) → IsRead source o t → ¬ ExceedsAnalysisLimit t o →
-      IsRefusedAs (asked_of t o) (Some o.max_nesting) e → FailsToCompile o source (failure e)
+  refused : {source : Source} {outcome : FancyOutcome} (t : ExprTree) (e : Error) → IsRead source o t →
+      ¬ ExceedsAnalysisLimit t o → IsRefusedAs (asked_of t o) (Some o.max_nesting) e →
+      IsFailureFor (pattern_in source) e outcome → FailsToCompile o source outcome
 
 -- Whether it nests as the options allow: a pattern is bounded where it is read.
 abbrev pub IsFlat : Source → FancyOptions → Type 0

@@ -1,11 +1,12 @@
 -- What outcomes say as sentences for a reader, and why a pattern has no program.
-use Rattle.std.specs.Prelude.{◌≡◌, ◌==◌, ◌⊎◌, ℕ, IsTrue, IsUtf8, List, [], ◌∷◌, ◌++◌, chars, codes, decimal, length, slice_index_or, string_bytes, Option, None, Some, if◌then◌else◌}
-use Rattle.std.specs.Option.{option_map_or}
+use Rattle.std.specs.Prelude.{◌≡◌, ◌==◌, ◌⊎◌, ℕ, IsTrue, IsUtf8, List, [], ◌∷◌, ◌++◌, chars, codes, decimal, length, slice_index_or, unwrap_or, Option, None, Some, if◌then◌else◌}
 use Rattle.fancy_meaning.specs.Numbers.{usize_max}
 use Rattle.fancy_expr.specs.declared.error.Error.{Error}
 use Rattle.fancy_expr.specs.declared.error.Error.TheVariants as error
-use Rattle.fancy_expr.specs.declared.error.CompileError.TheVariants as refusal
+use Rattle.fancy_expr.specs.declared.error.CompileError.{CompileError}
 use Rattle.fancy_expr.specs.declared.expr.ExprTree.{ExprTree}
+use Rattle.fancy_faults.specs.Faults.{IsPlaceIn}
+use Rattle.fancy_faults.specs.Words.{IsSaidOf}
 use Rattle.fancy_pattern.specs.Spelling as spelling
 use Rattle.fancy_pattern.specs.declared.error.PatternError.{PatternError}
 use Rattle.fancy_search.specs.declared.search.Compiled.{Compiled}
@@ -28,17 +29,17 @@ sentences =
     ∷ codes "too many branches failed"
     ∷ codes "too many branches were held"
     ∷ codes "too many instructions were executed"
-    ∷ codes "groups that have names are referred to by their names"
-    ∷ codes "this is not supported yet"
-    ∷ codes "a call names a group that is not there"
-    ∷ codes "a node of the tree was not resolved"
+    ∷ codes "if groups have names, references use the names"
+    ∷ codes "this is not supported"
+    ∷ codes "a call names a group that does not exist"
+    ∷ codes "a reference names a group that does not exist"
     ∷ codes "there is no group"
-    ∷ codes "a group calls itself before anything is taken"
-    ∷ codes "the calls never end"
-    ∷ codes "a lookbehind takes different numbers of characters"
-    ∷ codes "a class cannot be read"
+    ∷ codes "a group calls itself before it matches a character"
+    ∷ codes "the recursion never ends"
+    ∷ codes "the body of a look-behind has no fixed length"
+    ∷ codes "a class is invalid"
     ∷ codes "a class is too big"
-    ∷ codes "the program is too big"
+    ∷ codes "the program exceeds its limit of instructions"
     ∷ codes "parentheses nest deeper than the limit"
     ∷ codes "the tree nests deeper than the limit"
     ∷ codes "a parenthesis is not closed: expected `)`"
@@ -79,16 +80,18 @@ of_group group = if group == usize_max then [] else codes " " ++ decimal group
 abbrev pub message : FancyOutcome → List ℕ
 message o = at_byte o.byte ++ (sentence_of o.code ++ of_group o.group)
 
--- what an error names that its outcome does not: a class by its text, or a group by its description
-abbrev pub named_by : Error → Option (List ℕ)
-named_by (error.CompileError (refusal.LeftRecursiveSubroutineCall group)) = Some (string_bytes group)
-named_by (error.CompileError (refusal.InnerError class)) = Some (string_bytes class)
-named_by (error.CompileError (refusal.ClassTooBig class)) = Some (string_bytes class)
-named_by e = None
+-- what is said of a refusal of this pattern: where the piece is that is refused, if it is one, and why
+pub record IsRefusal (pattern : List ℕ) (refused : CompileError) (text : List ℕ) : Type 0 where
+  pub at : Option ℕ
+  pub words : List ℕ
+  pub place : IsPlaceIn pattern at
+  pub says : IsSaidOf refused words
+  pub whole : text ≡ at_byte (unwrap_or at usize_max) ++ words
 
--- what an error says, with what it names
-abbrev pub explanation : Error → List ℕ
-explanation e = message (failure e) ++ option_map_or (λ text. codes ": " ++ text) (named_by e) []
+-- what is said of an error of a pattern that was read
+abbrev pub IsExplanation : List ℕ → Error → List ℕ → Type 0
+IsExplanation bytes (error.CompileError refused) text = IsRefusal bytes refused text
+IsExplanation bytes e text = text ≡ message (failure e)
 
 -- why these bytes have no program as a pattern; an empty text where they have one
 pub data Explains (bytes : List ℕ) (o : FancyOptions) : List ℕ → Type 0 where
@@ -98,7 +101,8 @@ pub data Explains (bytes : List ℕ) (o : FancyOptions) : List ℕ → Type 0 wh
   unanalysed : {outcome : FancyOutcome} → IsTrue (has_size o) → IsUtf8 bytes → (t : ExprTree) → IsRead (pattern bytes) o t →
       IsUnanalysed t o outcome → Explains bytes o (message outcome)
   refused : IsTrue (has_size o) → IsUtf8 bytes → (t : ExprTree) (e : Error) → IsRead (pattern bytes) o t →
-      ¬ ExceedsAnalysisLimit t o → IsRefusedAs (asked_of t o) (Some o.max_nesting) e → Explains bytes o (explanation e)
+      ¬ ExceedsAnalysisLimit t o → IsRefusedAs (asked_of t o) (Some o.max_nesting) e → {text : List ℕ} →
+      IsExplanation bytes e text → Explains bytes o text
   has_program : IsTrue (has_size o) → IsUtf8 bytes → (t : ExprTree) (c : Compiled) → IsRead (pattern bytes) o t →
       ¬ ExceedsAnalysisLimit t o → IsCompiledFrom (asked_of t o) c → ¬ IsNestedOver (asked_of t o) (Some o.max_nesting) →
       Explains bytes o []

@@ -9,6 +9,7 @@ mod options;
 mod outcome;
 mod program;
 mod reading;
+mod refused;
 mod rewriting;
 mod rows;
 mod scanner;

@@ -1,7 +1,7 @@
 //! What an outcome says, as a sentence for a reader.
 
-ghost use Rattle.std.specs.Prelude.{◌≡◌, IfOk, option_map, string_bytes};
-ghost use Rattle.fancy_host.specs.Messages.{Explains, IsMessage, WritesText};
+ghost use Rattle.std.specs.Prelude.{◌≡◌, IfOk, string_bytes};
+ghost use Rattle.fancy_host.specs.Messages.{Explains, IsExplanation, IsMessage, IsRefusal, WritesText};
 ghost use Rattle.fancy_host.specs.Messages as messages;
 
 use crate::options::FancyOptions;
@@ -9,6 +9,7 @@ use crate::outcome::{FancyOutcome, MEMORY};
 use crate::reading::text_of;
 use crate::writing::write_text;
 use fancy_expr::error::{CompileError, Error};
+use fancy_faults::fault::fault_of;
 use fancy_pattern::pattern::parse_tree;
 use fancy_search::search::Compiled;
 use std::alloc::{AllocError, Global};
@@ -28,17 +29,17 @@ fn sentence_of(code: u32) -> &'static str
         7 => "too many branches failed",
         8 => "too many branches were held",
         9 => "too many instructions were executed",
-        10 => "groups that have names are referred to by their names",
-        11 => "this is not supported yet",
-        12 => "a call names a group that is not there",
-        13 => "a node of the tree was not resolved",
+        10 => "if groups have names, references use the names",
+        11 => "this is not supported",
+        12 => "a call names a group that does not exist",
+        13 => "a reference names a group that does not exist",
         14 => "there is no group",
-        15 => "a group calls itself before anything is taken",
-        16 => "the calls never end",
-        17 => "a lookbehind takes different numbers of characters",
-        18 => "a class cannot be read",
+        15 => "a group calls itself before it matches a character",
+        16 => "the recursion never ends",
+        17 => "the body of a look-behind has no fixed length",
+        18 => "a class is invalid",
         19 => "a class is too big",
-        20 => "the program is too big",
+        20 => "the program exceeds its limit of instructions",
         21 => "parentheses nest deeper than the limit",
         22 => "the tree nests deeper than the limit",
         23 => "a parenthesis is not closed: expected `)`",
@@ -100,30 +101,35 @@ fn message_of(alloc: Global, outcome: &FancyOutcome) -> Result<String, AllocErro
     Ok(text)
 }
 
-/// What an error names that its outcome does not: a class by its text, or a group by its description.
-fn named_by(error: &Error) -> Option<&str>
-    ensures { option_map (λ text. text.now) result ≡ messages.named_by error.now }
+/// What is said of a refusal of the pattern, with its place.
+fn refusal_text(
+    alloc: Global,
+    pattern: &str,
+    options: &FancyOptions,
+    refused: &CompileError,
+) -> Result<String, AllocError>
+    ensures { IfOk result (λ text. IsRefusal pattern.now refused.now (string_bytes text)) }
 {
-    match error {
-        Error::CompileError(CompileError::LeftRecursiveSubroutineCall(group)) => {
-            Some(group.as_str())
-        }
-        Error::CompileError(CompileError::InnerError(class)) => Some(class.as_str()),
-        Error::CompileError(CompileError::ClassTooBig(class)) => Some(class.as_str()),
-        _ => None,
-    }
+    let context = options.request().analysis();
+    let fault = fault_of(alloc, pattern, options.parsing(), context, refused)?;
+    let mut text = place_of(alloc, fault.at.unwrap_or(usize::MAX))?;
+    text.push_str(fault.message.as_str())?;
+    Ok(text)
 }
 
-/// What an error says, with what it names.
-fn explained(alloc: Global, error: &Error) -> Result<String, AllocError>
-    ensures { IfOk result (λ text. string_bytes text ≡ messages.explanation error.now) }
+/// Why a pattern that was read is not compiled.
+fn explained(
+    alloc: Global,
+    pattern: &str,
+    options: &FancyOptions,
+    error: &Error,
+) -> Result<String, AllocError>
+    ensures { IfOk result (λ text. IsExplanation pattern.now error.now (string_bytes text)) }
 {
-    let mut text = message_of(alloc, &FancyOutcome::of_error(error))?;
-    if let Some(named) = named_by(error) {
-        text.push_str(": ")?;
-        text.push_str(named)?;
+    match error {
+        Error::CompileError(refused) => refusal_text(alloc, pattern, options, refused),
+        _ => message_of(alloc, &FancyOutcome::of_error(error)),
     }
-    Ok(text)
 }
 
 /// Why a pattern has no program; an empty text where it has one.
@@ -148,7 +154,7 @@ fn explanation_of(
     let request = options.request();
     match Compiled::new(alloc, &tree, request.analysis(), request.compilation()) {
         Ok(_) => Ok(String::new(alloc)),
-        Err(error) => explained(alloc, &error),
+        Err(error) => explained(alloc, text, options, &error),
     }
 }
 

@@ -18,7 +18,8 @@ use fancy_vm::vm::SearchLimit;
 pub struct FancyOutcome {
     /// `FANCY_OK`, `FANCY_NO_MATCH`, or why there is no answer.
     pub code: u32,
-    /// The byte of the pattern, the tree or the text at which it cannot be read.
+    /// The byte of the pattern, the tree or the text at which it cannot be read, or of the pattern where the piece begins
+    /// that is refused.
     pub byte: usize,
     /// The group that is referred to, and is not there.
     pub group: usize,
@@ -246,6 +247,16 @@ impl FancyOutcome {
         ensures { result ≡ hosted.with_count count self }
     {
         FancyOutcome { count, ..self }
+    }
+
+    /// The outcome with this byte, if there is one.
+    pub fn at_place(self, place: Option<usize>) -> FancyOutcome
+        ensures { result ≡ hosted.at_place place self }
+    {
+        match place {
+            Some(byte) => FancyOutcome { byte, ..self },
+            None => self,
+        }
     }
 
     /// The bytes are no text from this one on.

@@ -19,6 +19,7 @@ ghost use Rattle.fancy_host.specs.Scanned as scanned;
 use crate::options::FancyOptions;
 use crate::outcome::{FancyOutcome, NO_MATCH, OK, code_of_scan_limit, next_start};
 use crate::reading::text_of;
+use crate::refused::failure_of;
 use crate::writing::write_from;
 use fancy_characters::places::is_place;
 use fancy_matches::found::Captures;
@@ -79,7 +80,7 @@ pub fn compile_rule(
             compiled.limit(options.limits());
             Ok(ScanPattern { compiled, groups })
         }
-        Err(error) => Err(FancyOutcome::of_error(&error)),
+        Err(error) => Err(failure_of(alloc, Some(text), options, &error)),
     }
 }
 

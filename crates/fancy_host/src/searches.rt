@@ -5,6 +5,7 @@ ghost use Rattle.fancy_expr.specs.Sound.{IsWellFormedTree};
 
 use crate::options::FancyOptions;
 use crate::outcome::FancyOutcome;
+use crate::refused::failure_of;
 use crate::standing::FancyStanding;
 use crate::tree::CompiledTree;
 use fancy_expr::error::Error;
@@ -26,8 +27,9 @@ pub struct Searcher {
 
 impl Searcher {
     ghost use Rattle.std.specs.Prelude.{Some};
+    ghost use Rattle.std.specs.Option.{option_map};
     ghost use Rattle.fancy_search.specs.Searches.{IsRefusedAs};
-    ghost use Rattle.fancy_host.specs.Hosted.{Answers, ExceedsAnalysisLimit, FailsToCompile, IsMadeFrom, IsMadeOf, IsRead, Source, asked_of, tree_in};
+    ghost use Rattle.fancy_host.specs.Hosted.{Answers, ExceedsAnalysisLimit, FailsToCompile, IsMadeFrom, IsMadeOf, IsRead, Source, asked_of, pattern_in, tree_in};
     ghost use Rattle.fancy_host.specs.Hosted as hosted;
     ghost use Rattle.fancy_host.specs.Lists.{Lists, all_groups, span_alone};
     ghost use Rattle.fancy_host.specs.Rewritten.{Replaces, writing};
@@ -59,9 +61,10 @@ impl Searcher {
         Ok(Box::new(alloc, searcher)?)
     }
 
-    /// Compiles a tree that was read.
+    /// Compiles a tree that was read, of this pattern if it is one.
     fn of_tree(
         alloc: Global,
+        pattern: Option<&str>,
         tree: ExprTree,
         options: &FancyOptions,
     ) -> Result<Box<Searcher>, FancyOutcome>
@@ -71,12 +74,13 @@ impl Searcher {
             (λ searcher. IsMadeOf tree options.now (tree_in searcher.value))
             (λ outcome. (source : Source)
             → IsRead source options.now tree
+            → pattern_in source ≡ option_map (λ text. text.now) pattern.entry
             → FailsToCompile options.now source outcome) }
     {
         options.check_analysis(alloc, &tree)?;
         match Searcher::of_tree_within_limit(alloc, tree, options) {
             Ok(searcher) => Ok(searcher),
-            Err(error) => Err(FancyOutcome::of_error(&error)),
+            Err(error) => Err(failure_of(alloc, pattern, options, &error)),
         }
     }
 
@@ -93,7 +97,7 @@ impl Searcher {
             (λ outcome. FailsToCompile options.now (hosted.notation text.now) outcome) }
     {
         match read_tree(alloc, text) {
-            Ok(tree) => Searcher::of_tree(alloc, tree, options),
+            Ok(tree) => Searcher::of_tree(alloc, None, tree, options),
             Err(error) => Err(FancyOutcome::of_error(&error)),
         }
     }
@@ -111,7 +115,7 @@ impl Searcher {
             (λ outcome. FailsToCompile options.now (hosted.pattern pattern.now) outcome) }
     {
         match parse_tree(alloc, pattern, options.parsing()) {
-            Ok(tree) => Searcher::of_tree(alloc, tree, options),
+            Ok(tree) => Searcher::of_tree(alloc, Some(pattern), tree, options),
             Err(error) => Err(FancyOutcome::of_fault(&error)),
         }
     }

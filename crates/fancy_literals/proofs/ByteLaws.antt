@@ -99,14 +99,14 @@ one_tested bytes test beyond at b small long is has byte below passed large =
 
 -- ---- a larger set
 
-module _ (unicode : Bool) (bytes larger : List Bool) (inside : Includes bytes larger) where
+module _ (unicode behind : Bool) (bytes larger : List Bool) (inside : Includes bytes larger) where
   begins_larger : (c : ℕ) → IsScalar c → begins_among bytes (encode_utf8 c) ≡ true → begins_among larger (encode_utf8 c) ≡ true
   begins_larger c scalar is =
       let first = first_byte c scalar in
       ap (begins_among larger) first.is ∙ inside first.byte first.below (ap (begins_among bytes) (sym first.is) ∙ is)
 
   mutual
-    pub takes_larger : (e : Tree) → TakesByte unicode bytes e → TakesByte unicode larger e
+    pub takes_larger : (e : Tree) → TakesByte unicode behind bytes e → TakesByte unicode behind larger e
     takes_larger (Literal c casei) h = λ d scalar is. begins_larger d scalar (h d scalar is)
     takes_larger (Delegate inner casei) h = λ d scalar is. begins_larger d scalar (h d scalar is)
     takes_larger (Concat es) h = one_larger es h
@@ -115,32 +115,32 @@ module _ (unicode : Bool) (bytes larger : List Bool) (inside : Includes bytes la
     takes_larger (AtomicGroup e) h = takes_larger e h
     takes_larger (Repeat lo hi greedy e) h = (h.0, takes_larger e h.1)
     takes_larger (LookAround LookAhead e) h = takes_larger e h
-    takes_larger (LookAround LookBehind e) h = takes_larger e h
+    takes_larger (LookAround LookBehind e) h = (h.0, takes_larger e h.1)
     takes_larger e h = absurd h
 
-    one_larger : (es : Trees) → OneTakesByte unicode bytes es → OneTakesByte unicode larger es
+    one_larger : (es : Trees) → OneTakesByte unicode behind bytes es → OneTakesByte unicode behind larger es
     one_larger none h = absurd h
     one_larger (more e es) (inl h) = inl (takes_larger e h)
     one_larger (more e es) (inr h) = inr (one_larger es h)
 
-    pub each_larger : (es : Trees) → EachTakesByte unicode bytes es → EachTakesByte unicode larger es
+    pub each_larger : (es : Trees) → EachTakesByte unicode behind bytes es → EachTakesByte unicode behind larger es
     each_larger none h = tt
     each_larger (more e es) h = (takes_larger e h.0, each_larger es h.1)
 
 -- ---- lists that grow
 
-module _ (unicode : Bool) (bytes : List Bool) where
-  pub one_on : (es : List Tree) (e : Tree) → OneTakesByte unicode bytes (trees es) → OneTakesByte unicode bytes (trees (es ++ e ∷ []))
+module _ (unicode behind : Bool) (bytes : List Bool) where
+  pub one_on : (es : List Tree) (e : Tree) → OneTakesByte unicode behind bytes (trees es) → OneTakesByte unicode behind bytes (trees (es ++ e ∷ []))
   one_on [] e h = absurd h
   one_on (d ∷ es) e (inl h) = inl h
   one_on (d ∷ es) e (inr h) = inr (one_on es e h)
 
-  pub one_last : (es : List Tree) (e : Tree) → TakesByte unicode bytes e → OneTakesByte unicode bytes (trees (es ++ e ∷ []))
+  pub one_last : (es : List Tree) (e : Tree) → TakesByte unicode behind bytes e → OneTakesByte unicode behind bytes (trees (es ++ e ∷ []))
   one_last [] e h = inl h
   one_last (d ∷ es) e h = inr (one_last es e h)
 
-  pub each_last : (es : List Tree) (e : Tree) → EachTakesByte unicode bytes (trees es) → TakesByte unicode bytes e →
-      EachTakesByte unicode bytes (trees (es ++ e ∷ []))
+  pub each_last : (es : List Tree) (e : Tree) → EachTakesByte unicode behind bytes (trees es) → TakesByte unicode behind bytes e →
+      EachTakesByte unicode behind bytes (trees (es ++ e ∷ []))
   each_last [] e h last = (last, tt)
   each_last (d ∷ es) e h last = (h.0, each_last es e h.1 last)
 

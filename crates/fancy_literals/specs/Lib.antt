@@ -1,3 +1,4 @@
+pub mod ByteSets
 pub mod Required
 pub mod Takes
 pub mod TakesByte

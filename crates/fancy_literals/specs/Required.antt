@@ -1,5 +1,5 @@
 -- What each match of a tree takes.
-use Rattle.std.specs.Prelude.{◌≡◌, ℕ, Bool, true, false, List, [], ◌∷◌, None, drop, slice_index_or, string_bytes}
+use Rattle.std.specs.Prelude.{◌≡◌, ◌≤◌, ℕ, Bool, true, false, List, [], ◌∷◌, None, drop, if◌then◌else◌, slice_index_or}
 use Rattle.regex_hir.specs.Text.{has_bytes_at}
 use Rattle.fancy_meaning.specs.Answer.{answer, search_of}
 use Rattle.fancy_meaning.specs.Options.{RunOptions}
@@ -14,8 +14,8 @@ pub data Required : Type 0 where
   OneOf : (bytes : List Bool) → Required
 
 abbrev pub required_of : declared.Required → Required
-required_of (code.Literal literal) = Piece (string_bytes literal)
-required_of (code.OneOf bytes) = OneOf bytes
+required_of (code.Literal literal) = Piece literal
+required_of (code.OneOf set) = OneOf set.bytes
 
 -- the text begins with a byte of the set
 abbrev pub begins_among : (bytes : List Bool) → (text : List ℕ) → Bool
@@ -27,14 +27,24 @@ abbrev pub stands_at : Required → (text : List ℕ) → ℕ → Bool
 stands_at (Piece literal) text i = has_bytes_at text i literal
 stands_at (OneOf bytes) text i = begins_among bytes (drop i text)
 
+-- it stands nowhere in the text from this byte on
+abbrev pub LacksFrom : Required → (text : List ℕ) → (from : ℕ) → Type 0
+LacksFrom r text from = (i : ℕ) → from ≤ i → stands_at r text i ≡ true → ⊥
+
 -- it stands nowhere in the text
 abbrev pub Lacks : Required → (text : List ℕ) → Type 0
-Lacks r text = (i : ℕ) → stands_at r text i ≡ true → ⊥
+Lacks r text = LacksFrom r text 0
 
--- No search finds a match in a text that lacks it.
-abbrev pub IsRequired : Required → Input → Type 0
-IsRequired r i = (text : List ℕ) (o : RunOptions) → Lacks r text → answer (search_of (plan i) text o) ≡ None
+-- Where a match may take something: where its search begins or behind it; anywhere, if what look-behinds take counts.
+abbrev pub taken_from : (behind : Bool) → RunOptions → ℕ
+taken_from behind o = if behind then 0 else o.pos
+
+-- No search finds a match in a text that lacks it from there on.
+abbrev pub IsRequired : Required → (behind : Bool) → Input → Type 0
+IsRequired r behind i =
+    (text : List ℕ) (o : RunOptions) → LacksFrom r text (taken_from behind o) → answer (search_of (plan i) text o) ≡ None
 
 -- so it is for this tree, compiled with this option `unicode`
-abbrev pub IsRequiredOf : Required → (unicode : Bool) → Tree → Type 0
-IsRequiredOf r unicode tree = (i : Input) → (i.parsed).tree ≡ tree → (i.options).unicode ≡ unicode → IsRequired r i
+abbrev pub IsRequiredOf : Required → (behind unicode : Bool) → Tree → Type 0
+IsRequiredOf r behind unicode tree =
+    (i : Input) → (i.parsed).tree ≡ tree → (i.options).unicode ≡ unicode → IsRequired r behind i

@@ -13,7 +13,8 @@ Includes bytes larger = (byte : ℕ) → byte < 256 → slice_index_or bytes byt
 abbrev pub BeginAmong : (bytes : List Bool) → (test : ℕ → Bool) → Type 0
 BeginAmong bytes test = (c : ℕ) → IsScalar c → test c ≡ true → begins_among bytes (encode_utf8 c) ≡ true
 
-module _ (unicode : Bool) (bytes : List Bool) where
+-- `behind`: where what look-behinds take counts
+module _ (unicode behind : Bool) (bytes : List Bool) where
   abbrev mutual
     pub TakesByte : Tree → Type 0
     TakesByte (Literal c casei) = BeginAmong bytes (literal_takes unicode c casei)
@@ -24,7 +25,7 @@ module _ (unicode : Bool) (bytes : List Bool) where
     TakesByte (AtomicGroup e) = TakesByte e
     TakesByte (Repeat lo hi greedy e) = (0 < lo) × TakesByte e
     TakesByte (LookAround LookAhead e) = TakesByte e
-    TakesByte (LookAround LookBehind e) = TakesByte e
+    TakesByte (LookAround LookBehind e) = (behind ≡ true) × TakesByte e
     TakesByte e = ⊥
 
     -- one of the nodes takes such a byte

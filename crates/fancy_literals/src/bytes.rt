@@ -1,6 +1,6 @@
 //! A set of bytes of which each match of a tree takes one.
 
-ghost use Rattle.std.specs.Prelude.{◌≡◌, ◌⊎◌, IfOk, IfSome, Some, map};
+ghost use Rattle.std.specs.Prelude.{◌≡◌, ◌⊎◌, Bool, IfOk, IfSome, Some, map};
 ghost use Rattle.regex_class.specs.Ranges.{in_ranges};
 ghost use Rattle.fancy_meaning.specs.Chars.{literal_takes};
 ghost use Rattle.fancy_meaning.specs.Tree.{trees};
@@ -13,30 +13,32 @@ use regex_class::Class;
 use std::alloc::{AllocError, Global};
 
 /// Bytes of which each way of the node takes one, if such are known that are rare: by whether each byte is one of them.
+/// What look-behinds take counts only if `behind` says so.
 #[cycle(bytes)]
 pub(crate) fn bytes_of(
     alloc: Global,
     expr: &Expr,
     unicode: bool,
+    behind: bool,
 ) -> Result<Option<[bool; 256]>, AllocError>
     ensures { IfOk result (λ found. IfSome found (λ bytes.
-        TakesByte unicode bytes (tree_of expr.now))) }
+        TakesByte unicode behind bytes (tree_of expr.now))) }
 {
     match expr {
-        Expr::Concat(parts) => rarest_of(alloc, parts, unicode),
-        Expr::Alt(branches) => union_of(alloc, branches, unicode),
-        Expr::Group(body) => bytes_of(alloc, body, unicode),
-        Expr::AtomicGroup(body) => bytes_of(alloc, body, unicode),
+        Expr::Concat(parts) => rarest_of(alloc, parts, unicode, behind),
+        Expr::Alt(branches) => union_of(alloc, branches, unicode, behind),
+        Expr::Group(body) => bytes_of(alloc, body, unicode, behind),
+        Expr::AtomicGroup(body) => bytes_of(alloc, body, unicode, behind),
         Expr::Repeat { child, lo, .. } => {
             if *lo > 0 {
-                bytes_of(alloc, child, unicode)
+                bytes_of(alloc, child, unicode, behind)
             } else {
                 Ok(None)
             }
         }
         Expr::LookAround(body, look) => match look {
-            LookAround::LookAhead => bytes_of(alloc, body, unicode),
-            LookAround::LookBehind => bytes_of(alloc, body, unicode),
+            LookAround::LookAhead => bytes_of(alloc, body, unicode, behind),
+            LookAround::LookBehind if behind => bytes_of(alloc, body, unicode, behind),
             _ => Ok(None),
         },
         _ => bytes_of_character(alloc, expr, unicode),
@@ -49,13 +51,14 @@ fn rarest_of(
     alloc: Global,
     parts: &[Expr],
     unicode: bool,
+    behind: bool,
 ) -> Result<Option<[bool; 256]>, AllocError>
     ensures { IfOk result (λ found. IfSome found (λ bytes.
-        OneTakesByte unicode bytes (trees (map tree_of parts.now)))) }
+        OneTakesByte unicode behind bytes (trees (map tree_of parts.now)))) }
 {
     let mut rarest = None;
     for part in parts {
-        rarest = rarer(rarest, bytes_of(alloc, part, unicode)?);
+        rarest = rarer(rarest, bytes_of(alloc, part, unicode, behind)?);
     }
     Ok(rarest)
 }
@@ -66,13 +69,14 @@ fn union_of(
     alloc: Global,
     branches: &[Expr],
     unicode: bool,
+    behind: bool,
 ) -> Result<Option<[bool; 256]>, AllocError>
     ensures { IfOk result (λ found. IfSome found (λ bytes.
-        EachTakesByte unicode bytes (trees (map tree_of branches.now)))) }
+        EachTakesByte unicode behind bytes (trees (map tree_of branches.now)))) }
 {
     let mut union = [false; 256];
     for branch in branches {
-        match bytes_of(alloc, branch, unicode)? {
+        match bytes_of(alloc, branch, unicode, behind)? {
             None => return Ok(None),
             Some(bytes) => union = both(&union, &bytes),
         }
@@ -138,8 +142,9 @@ fn bytes_of_character(
     expr: &Expr,
     unicode: bool,
 ) -> Result<Option<[bool; 256]>, AllocError>
-    ensures { IfOk result (λ found. IfSome found (λ bytes.
-        TakesByte unicode bytes (tree_of expr.now))) }
+    ensures { (behind : Bool)
+        → IfOk result (λ found. IfSome found (λ bytes.
+        TakesByte unicode behind bytes (tree_of expr.now))) }
 {
     let bytes = match expr {
         Expr::Literal { val, casei } => match val.chars().next() {

@@ -1,5 +1,6 @@
 //! The literals of a tree: see README.md.
 #![tactic(auto)]
 
+pub mod byte_set;
 mod bytes;
 pub mod required;

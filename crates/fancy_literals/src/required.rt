@@ -1,13 +1,15 @@
 //! What each match of a tree takes: a literal, or a byte of a set.
 
-ghost use Rattle.std.specs.Prelude.{◌≡◌, ◌⊎◌, [], Some, IfOk, IfSome, false, map, string_bytes};
+ghost use Rattle.std.specs.Prelude.{◌≡◌, ◌⊎◌, [], Bool, Some, IfOk, IfSome, false, map, string_bytes};
 ghost use Rattle.fancy_meaning.specs.Tree.{Literal};
 ghost use Rattle.fancy_expr.specs.Views.{tree_of};
 ghost use Rattle.fancy_literals.specs.Required.{IsRequiredOf, required_of};
 ghost use Rattle.fancy_literals.specs.Takes.{IsTaken, Takes};
 
+use crate::byte_set::ByteSet;
 use crate::bytes::bytes_of;
 use fancy_expr::expr::{Expr, LookAround};
+use memchr::memmem::{Finder, FinderBuilder};
 use std::alloc::{AllocError, Global};
 use std::mem;
 
@@ -15,53 +17,74 @@ use std::mem;
 #[derive(Drop)]
 pub enum Required {
     /// This literal, in UTF-8.
-    Literal(String),
-    /// One byte of a set, by whether each byte is in it.
-    OneOf([bool; 256]),
+    Literal(Finder<'static>),
+    /// One byte of a set.
+    OneOf(ByteSet),
+}
+
+impl Required {
+    ghost use Rattle.std.specs.Prelude.{IsTrue};
+    ghost use Rattle.fancy_literals.specs.Required.{LacksFrom, required_of};
+
+    /// Whether it stands nowhere in the text from this byte on. It takes time in the length of what is left of the
+    /// text; `from` may be past its end.
+    pub fn is_missing(&self, text: &str, from: usize) -> bool
+        ensures { IsTrue result → LacksFrom (required_of self.now) text.now from }
+    {
+        let bytes = text.as_bytes();
+        let rest = &bytes[from.min(bytes.len())..];
+        match self {
+            Required::Literal(literal) => literal.find(rest).is_none(),
+            Required::OneOf(set) => set.is_missing(rest),
+        }
+    }
 }
 
 /// What each match of the tree, compiled with this option `unicode`, takes: the longest literal that is known, or else
 /// the fewest bytes; none where nothing is known.
 ///
-/// A text without it has no match, wherever a search begins. What a look-around asks for counts too. The only error is
-/// out of memory.
+/// A text without it from the byte on where a search begins has no match there. What look-aheads ask for counts too. If
+/// `behind` holds, what look-behinds ask for does as well, which may stand before that byte: then the whole text has to
+/// be without it. The only error is out of memory.
 pub fn required_by(
     alloc: Global,
     expr: &Expr,
     unicode: bool,
+    behind: bool,
 ) -> Result<Option<Required>, AllocError>
     ensures { IfOk result (λ found. IfSome found (λ r.
-        IsRequiredOf (required_of r) unicode (tree_of expr.now))) }
+        IsRequiredOf (required_of r) behind unicode (tree_of expr.now))) }
 {
-    if let Some(literal) = taken_by(alloc, expr)? {
-        return Ok(Some(Required::Literal(literal)));
+    if let Some(literal) = taken_by(alloc, expr, behind)? {
+        let finder = FinderBuilder::new().build_forward_owned(literal.into_bytes());
+        return Ok(Some(Required::Literal(finder)));
     }
-    match bytes_of(alloc, expr, unicode)? {
-        Some(bytes) => Ok(Some(Required::OneOf(bytes))),
+    match bytes_of(alloc, expr, unicode, behind)? {
+        Some(bytes) => Ok(Some(Required::OneOf(ByteSet::new(bytes)))),
         None => Ok(None),
     }
 }
 
-/// A literal that each way of the node takes.
+/// A literal that each way of the node takes. What look-behinds take counts only if `behind` says so.
 #[cycle(taken)]
-fn taken_by(alloc: Global, expr: &Expr) -> Result<Option<String>, AllocError>
+fn taken_by(alloc: Global, expr: &Expr, behind: bool) -> Result<Option<String>, AllocError>
     ensures { IfOk result (λ found. IfSome found (λ literal.
-        Takes (string_bytes literal) (tree_of expr.now))) }
+        Takes behind (string_bytes literal) (tree_of expr.now))) }
 {
     match expr {
-        Expr::Concat(parts) => taken_by_parts(alloc, parts),
-        Expr::Group(body) => taken_by(alloc, body),
-        Expr::AtomicGroup(body) => taken_by(alloc, body),
+        Expr::Concat(parts) => taken_by_parts(alloc, parts, behind),
+        Expr::Group(body) => taken_by(alloc, body, behind),
+        Expr::AtomicGroup(body) => taken_by(alloc, body, behind),
         Expr::Repeat { child, lo, .. } => {
             if *lo > 0 {
-                taken_by(alloc, child)
+                taken_by(alloc, child, behind)
             } else {
                 Ok(None)
             }
         }
         Expr::LookAround(body, look) => match look {
-            LookAround::LookAhead => taken_by(alloc, body),
-            LookAround::LookBehind => taken_by(alloc, body),
+            LookAround::LookAhead => taken_by(alloc, body, behind),
+            LookAround::LookBehind if behind => taken_by(alloc, body, behind),
             _ => Ok(None),
         },
         _ => taken_by_itself(alloc, expr),
@@ -71,15 +94,15 @@ fn taken_by(alloc: Global, expr: &Expr) -> Result<Option<String>, AllocError>
 /// A literal that each way of the nodes takes, one after the other: the longest of literals in a row, and of what each
 /// node takes.
 #[cycle(taken)]
-fn taken_by_parts(alloc: Global, parts: &[Expr]) -> Result<Option<String>, AllocError>
+fn taken_by_parts(alloc: Global, parts: &[Expr], behind: bool) -> Result<Option<String>, AllocError>
     ensures { IfOk result (λ found. IfSome found (λ literal.
-        IsTaken (string_bytes literal) (map tree_of parts.now))) }
+        IsTaken behind (string_bytes literal) (map tree_of parts.now))) }
 {
     let mut literals = Literals::new(alloc);
     for part in parts {
         match character_of(part) {
             Some(character) => literals.push(character)?,
-            None => literals.end_row(alloc, taken_by(alloc, part)?),
+            None => literals.end_row(alloc, taken_by(alloc, part, behind)?),
         }
     }
     Ok(literals.longest())
@@ -95,12 +118,12 @@ struct Literals {
 }
 
 impl Literals {
-    ghost use Rattle.std.specs.Prelude.{◌++◌, ◌∷◌, [], List};
+    ghost use Rattle.std.specs.Prelude.{◌++◌, ◌∷◌, [], Bool, List};
     ghost use Rattle.fancy_meaning.specs.Tree.{Tree};
     ghost use Rattle.fancy_literals.specs.Takes.{AreRead, Takes, literal};
 
     fn new(alloc: Global) -> Literals
-        ensures { AreRead result [] }
+        ensures { (behind : Bool) → AreRead behind result [] }
     {
         Literals {
             longest: None,
@@ -110,20 +133,19 @@ impl Literals {
 
     /// Reads a literal.
     fn push(&mut self, character: char) -> Result<(), AllocError>
-        ensures { (es : List Tree)
-            → AreRead self.old es
-            → IfOk result (λ u. AreRead self.new (es ++ literal character ∷ [])) }
+        ensures { (behind : Bool) (es : List Tree)
+            → AreRead behind self.old es
+            → IfOk result (λ u. AreRead behind self.new (es ++ literal character ∷ [])) }
     {
         self.row.push(character)
     }
 
     /// Reads a node that takes this literal, if one is known.
     fn end_row(&mut self, alloc: Global, taken: Option<String>)
-        ensures { (es : List Tree)
-            → (e : Tree)
-            → AreRead self.old es
-            → IfSome taken (λ s. Takes (string_bytes s) e)
-            → AreRead self.new (es ++ e ∷ []) }
+        ensures { (behind : Bool) (es : List Tree) (e : Tree)
+            → AreRead behind self.old es
+            → IfSome taken (λ s. Takes behind (string_bytes s) e)
+            → AreRead behind self.new (es ++ e ∷ []) }
     {
         let row = mem::replace(&mut self.row, String::new(alloc));
         let longest = longer(self.longest.take(), row);
@@ -132,9 +154,9 @@ impl Literals {
 
     /// The longest literal that the nodes take, if one is known.
     fn longest(self) -> Option<String>
-        ensures { (es : List Tree)
-            → AreRead self es
-            → IfSome result (λ literal. IsTaken (string_bytes literal) es) }
+        ensures { (behind : Bool) (es : List Tree)
+            → AreRead behind self es
+            → IfSome result (λ literal. IsTaken behind (string_bytes literal) es) }
     {
         longer(self.longest, self.row)
     }
@@ -152,8 +174,9 @@ fn character_of(expr: &Expr) -> Option<char>
 
 /// The node's character as a literal, where it is one.
 fn taken_by_itself(alloc: Global, expr: &Expr) -> Result<Option<String>, AllocError>
-    ensures { IfOk result (λ found. IfSome found (λ literal.
-        Takes (string_bytes literal) (tree_of expr.now))) }
+    ensures { (behind : Bool)
+        → IfOk result (λ found. IfSome found (λ literal.
+        Takes behind (string_bytes literal) (tree_of expr.now))) }
 {
     let Some(character) = character_of(expr) else {
         return Ok(None);
@@ -163,13 +186,13 @@ fn taken_by_itself(alloc: Global, expr: &Expr) -> Result<Option<String>, AllocEr
     Ok(Some(literal))
 }
 
-/// The longer one; the first among equals, and none where both are empty.
+/// The longer one; the last among equals, since a search fails late that lacks it, and none if both are empty.
 fn longer(longest: Option<String>, literal: String) -> Option<String>
     ensures { IfSome result (λ s. (longest ≡ Some s)
         ⊎ ((s ≡ literal) × (string_bytes literal ≡ [] → ⊥))) }
 {
     match longest {
-        Some(longest) if longest.len() >= literal.len() => Some(longest),
+        Some(longest) if longest.len() > literal.len() => Some(longest),
         longest => if literal.is_empty() {
             longest
         } else {

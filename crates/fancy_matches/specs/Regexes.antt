@@ -12,7 +12,7 @@ use Rattle.fancy_expr.specs.declared.error.Error.{Error}
 use Rattle.fancy_expr.specs.declared.error.Error.TheVariants as error
 use Rattle.fancy_steps.specs.Outcomes.{first_pair}
 use Rattle.fancy_steps.specs.SearchLimits.{StaysWithin, passed_by}
-use Rattle.fancy_search.specs.Scratches.{cost_of}
+use Rattle.fancy_search.specs.Scratches.{cost_of, work_of}
 use Rattle.fancy_steps.specs.Tasks.{options_of as run_options_of}
 use Rattle.fancy_steps.specs.declared.search_limits.SearchLimit.{SearchLimit}
 use Rattle.fancy_search.specs.Searches.{Bounds, IsCompiledFrom, Promises, instructions_of}
@@ -98,6 +98,10 @@ options_in r text = options_for (run_options_of r.options.run) r.options.backtra
 -- the limit of the delegates that its last search passed
 abbrev pub passed_in : Regex → Option SearchLimit
 passed_in r = passed_by r.options.limits (cost_of r.scratch)
+
+-- how much its last search did
+abbrev pub work_in : Regex → ℕ
+work_in r = work_of r.scratch
 
 -- a search that left it so passed no such limit, or answers `Memory`
 abbrev pub StaysIn : {A : Type 0} → Result A Error → Regex → Type 0

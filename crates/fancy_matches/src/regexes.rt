@@ -59,7 +59,7 @@ impl Drop for Regex {
 }
 
 impl Regex {
-    ghost use Rattle.fancy_matches.specs.Regexes.{AreAllApart, Begins, FindsCaptures, FindsMatch, FindsWhether, GivesBy, GivesCaptures, GivesMatch, IsMadeBy, IsNoLimitWhereEasy, IsRegexOf, IsSame, Shows, StaysIn, StaysInStep, captures_iteration, compiled_of, matches_iteration, options_in, passed_in, standing_of};
+    ghost use Rattle.fancy_matches.specs.Regexes.{AreAllApart, Begins, FindsCaptures, FindsMatch, FindsWhether, GivesBy, GivesCaptures, GivesMatch, IsMadeBy, IsNoLimitWhereEasy, IsRegexOf, IsSame, Shows, StaysIn, StaysInStep, captures_iteration, compiled_of, matches_iteration, options_in, passed_in, standing_of, work_in};
 
     /// Analyses and compiles the tree. The caller proves that it is well-formed (`is_well_formed`), and that the options fit
     /// the empty text; so they begin at 0. Each search sets for itself where it begins, and whether it is continued.
@@ -137,6 +137,14 @@ impl Regex {
         ensures { result ≡ passed_in self.now }
     {
         self.options.limits.passed_by(self.scratch.cost())
+    }
+
+    /// How much the last search did: its visits and backtracks, and one for each eight instructions. It is 0 for a tree for
+    /// which an engine may search, since that takes linear time.
+    pub fn work(&self) -> u64
+        ensures { result ≡ work_in self.now }
+    {
+        self.scratch.work()
     }
 
     /// The options of a search of the text from this position on.

@@ -1,5 +1,5 @@
 -- A plain search finds the first way within its bound, and what was memoized has no way: from what is shown of its tasks.
-use Rattle.std.proofs.Common.{◌≡◌, ◌≤◌, ℕ, ◌+◌, ◌-◌, Bool, true, false, List, [], ◌∷◌, length, Contains, Option, Some, None, option_map, IsTrue, slice_get, refl, sym, subst, ap, ◌∙◌, le_refl, le_trans}
+use Rattle.std.proofs.Common.{◌≡◌, ◌≤◌, ℕ, ◌+◌, ◌-◌, Bool, true, false, List, [], ◌∷◌, length, Option, Some, None, option_map, IsTrue, slice_get, refl, sym, subst, ap, ◌∙◌, le_refl, le_trans}
 use Rattle.fancy_meaning.specs.Tree.{Tree}
 use Rattle.fancy_meaning.specs.Places.{is_place}
 use Rattle.fancy_meaning.specs.Options.{Analysis}
@@ -10,13 +10,13 @@ use Rattle.fancy_meaning.specs.Ways.{Setting}
 use Rattle.fancy_laws.proofs.Every.{Every}
 use Rattle.fancy_laws.proofs.Moves.{is_place_parts}
 use Rattle.fancy_nfa.specs.NfaCode.{states_of}
-use Rattle.fancy_nfa.specs.NfaSearch.{NfaConfig, Pair, Fails, Search, Next, TakesUp, Ends, pair_of, first_search, first_config}
-use Rattle.fancy_nfa.specs.FirstWays.{AreEasy, FindsFirstWays, ways_of_nodes, seen, seen_of, searched, AreMemoized, no_pairs, of_search, FindsFirst, FindsFrom, HasNoWay, FailedSetIsSound, KeptFindTheWay}
+use Rattle.fancy_nfa.specs.NfaSearch.{NfaConfig, Pair, Search, TakesUp, Ends, pair_of, first_search, first_config}
+use Rattle.fancy_nfa.specs.FirstWays.{AreEasy, FindsFirstWays, ways_of_nodes, seen, seen_of, searched, AreMemoized, no_pairs, of_search, FindsFirst, HasNoWay, FailedSetIsSound}
 use Rattle.fancy_nfa.proofs.Totals.{Distinct}
 use Rattle.fancy_nfa.proofs.Tasks.{Task, tasks_of, ways_of_tasks, TasksFit}
 use Rattle.fancy_nfa.proofs.Standing.{IsConfigOf}
 use Rattle.fancy_nfa.proofs.Positions.{Ground, Position, ways_at, after, StepFacts, PairFacts}
-use Rattle.fancy_nfa.proofs.Memory.{IsSound, Keeps, BeginsWith, EndsAt, keeps, one_begins, still_memoized}
+use Rattle.fancy_nfa.proofs.Memory.{IsSound, Keeps, EndsAt, keeps, still_memoized}
 use Rattle.fancy_nfa.proofs.Ending.{stops}
 use Rattle.fancy_nfa.proofs.Visits.{IsTriedPair, charges, counted_at_end}
 
@@ -138,34 +138,6 @@ module _ (q : Setting) (a : Analysis) (es : List Tree) (rank : List Task → (pl
         let none = none_of (ways_at ground position) end.way end.at_end (sound (pair_of s) h s position refl) in
         (end.steps, end.found, end.ends ∙ ap (λ way. Ends way end.found) none)
 
-    -- a way that is found is the first one
-    found_is : (all : List MatchState) (s : NfaConfig) (way : Option NfaConfig) → BeginsWith ground all s → EndsAt ground all way →
-        (t : NfaConfig) × (way ≡ Some t) × (seen_of t ≡ seen_of s)
-    found_is all s None h e = no_first h.1 (sym e ∙ h.2)
-    found_is all s (Some t) h e =
-        let same : e.0 ≡ h.0 = same_first e.1 h.1 (sym e.2 ∙ h.2) in
-        (t, refl, e.3 ∙ ap seen same ∙ sym h.3)
-      where
-        same_first : {m n : MatchState} (ms ns : List MatchState) → m ∷ ms ≡ n ∷ ns → m ≡ n
-        same_first ms ns e = cc
-
-    found_there : (n : Next) (way : Option NfaConfig) (t : NfaConfig) (found : Search) → n ≡ Ends way found → way ≡ Some t →
-        n ≡ Ends (Some t) found
-    found_there n way t found e is = e ∙ ap (λ w. Ends w found) is
-
-    pub kept_find : (failed : Pair → Bool) (place k : ℕ) (way : NfaConfig) (found : Search) (s : NfaConfig) →
-        IsTrue (is_place q.text place) → AreMemoized q.text q.unicode (states_of a.tree es) failed →
-        searched q.text q.unicode (states_of a.tree es) failed place k ≡ Ends (Some way) found → Contains found.frames (Fails s) →
-        FindsFrom q (states_of a.tree es) s (seen_of way)
-    kept_find failed place k way found s is memoized e kept =
-        let within = (is_place_parts q.text place is).0 in
-        let at_end = subst (Keeps ground (ways_at ground (first_position place within))) e
-        (keeps_from place k failed within (memoized_sound memoized)) in
-        let head = one_begins ground found.frames way s at_end.2 kept in
-        let end = search_ends head.0 (λ pair. false) (memoized_sound no_pairs) in
-        let last = found_is (ways_at ground head.0) way end.way head.1 end.at_end in
-        (end.steps, last.0, end.found, found_there _ end.way last.0 end.found end.ends last.1, last.2)
-
 -- these nodes, with measures that this is shown of
 pub record Measures (q : Setting) (a : Analysis) (es : List Tree) : Type 1 where
   pub rank : List Task → (place : ℕ) → ℕ
@@ -184,8 +156,3 @@ module _ (measures : (q : Setting) (a : Analysis) (es : List Tree) → IsText q.
   memoized_fail q a es failed place steps s found is_text is easy memoized e h =
       let m = measures q a es is_text easy in
       memoized_fails q a es m.rank m.weight m.charge m.IsHere m.facts failed place steps s found is memoized e h
-
-  pub kept_lead : KeptFindTheWay
-  kept_lead q a es failed place steps way found s is_text is easy memoized e kept =
-      let m = measures q a es is_text easy in
-      kept_find q a es m.rank m.weight m.charge m.IsHere m.facts failed place steps way found s is memoized e kept

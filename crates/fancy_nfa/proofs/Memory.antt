@@ -1,5 +1,5 @@
 -- What a search keeps to: memoized pairs have no way, and what is left to be tried has the ways that it began with.
-use Rattle.std.proofs.Common.{◌≡◌, ℕ, zero, suc, Bool, true, false, ◌||◌, if◌then◌else◌, List, [], ◌∷◌, ◌++◌, Contains, Option, Some, None, slice_get, refl, sym, subst, ap₂, arith, append_assoc, append-nil}
+use Rattle.std.proofs.Common.{◌≡◌, ℕ, zero, suc, Bool, true, false, ◌||◌, if◌then◌else◌, List, [], ◌∷◌, ◌++◌, Option, Some, None, slice_get, refl, sym, subst, ap₂, append_assoc, append-nil}
 use Rattle.fancy_meaning.specs.MatchState.{MatchState}
 use Rattle.fancy_nfa.specs.NfaSearch.{NfaConfig, Pair, StepResult, Found, Lost, Goes, Tries, Frame, Other, Fails, Search, Next, TakesUp, TakesBack, Ends, pair_of, same_pair, visited, others, with_frames, next_by, back_to}
 use Rattle.fancy_nfa.specs.FirstWays.{seen, seen_of, search_in}
@@ -25,42 +25,16 @@ module _ (w : Ground) where
   EndsAt all None = all ≡ []
   EndsAt all (Some s) = BeginsWith all s
 
-  -- the ways of each configuration that has not failed begin with this one
-  abbrev pub EachBegins : List Frame → NfaConfig → Type 0
-  EachBegins [] s = Unit {0}
-  EachBegins (Other t ∷ frames) s = EachBegins frames s
-  EachBegins (Fails t ∷ frames) s = ((p : Position w t) × BeginsWith (ways_at w p) s) × EachBegins frames s
-
-  abbrev pub EachEndsAt : List Frame → Option NfaConfig → Type 0
-  EachEndsAt frames None = Unit {0}
-  EachEndsAt frames (Some s) = EachBegins frames s
-
   abbrev pub Keeps : List MatchState → Next → Type 0
   Keeps all (TakesUp s found) = (p : Position w s) × IsSound found.failed × Below found.frames (ways_at w p) all
   Keeps all (TakesBack found) = IsSound found.failed × Below found.frames [] all
-  Keeps all (Ends s found) = IsSound found.failed × EndsAt all s × EachEndsAt found.frames s
+  Keeps all (Ends s found) = IsSound found.failed × EndsAt all s
 
   below_first : (frames : List Frame) (m : MatchState) (ways all : List MatchState) → Below frames (m ∷ ways) all →
       (rest : List MatchState) × (all ≡ m ∷ rest)
   below_first [] m ways all h = (ways, sym h)
   below_first (Other s ∷ frames) m ways all h = below_first frames m (ways ++ ways_at w h.0) all h.1
   below_first (Fails s ∷ frames) m ways all h = below_first frames m ways all h.2
-
-  each_begins : (frames : List Frame) (m : MatchState) (ways all : List MatchState) (s : NfaConfig) → Below frames (m ∷ ways) all →
-      seen_of s ≡ seen m → EachBegins frames s
-  each_begins [] m ways all s h e = tt
-  each_begins (Other t ∷ frames) m ways all s h e = each_begins frames m (ways ++ ways_at w h.0) all s h.1 e
-  each_begins (Fails t ∷ frames) m ways all s h e = ((h.0, (m, ways, sym h.1, e)), each_begins frames m ways all s h.2 e)
-
-  pub one_begins : (frames : List Frame) (s t : NfaConfig) → EachBegins frames s → Contains frames (Fails t) →
-      (p : Position w t) × BeginsWith (ways_at w p) s
-  one_begins [] s t h (k, lt, e) = absurd (omega (arith, lt))
-  one_begins (Other u ∷ frames) s t h (zero, lt, e) = cc e
-  one_begins (Other u ∷ frames) s t h (suc k, lt, e) = one_begins frames s t h (k, omega (arith, lt), e)
-  one_begins (Fails u ∷ frames) s t h (zero, lt, e) =
-      let same : u ≡ t = cc in
-      subst (λ v. (p : Position w v) × BeginsWith (ways_at w p) s) same h.0
-  one_begins (Fails u ∷ frames) s t h (suc k, lt, e) = one_begins frames s t h.1 (k, omega (arith, lt), e)
 
   below_others : (ss : List NfaConfig) (rs : Positions w ss) (frames : List Frame) (ways all : List MatchState) →
       Below frames (ways ++ ways_from w ss rs) all → Below (others ss ++ frames) ways all
@@ -79,7 +53,7 @@ module _ (w : Ground) where
         let first = below_first found.frames p.state [] all under in
         let same : seen_of s ≡ seen p.state = ap₂ (λ i c. (i, c)) (p.is_config).place (p.is_config).spans in
         subst (λ f. Keeps all (Ends (Some s) f)) (visited_is w s found)
-        (sound, (p.state, first.0, first.1, same), each_begins found.frames p.state [] all s under same)
+        (sound, (p.state, first.0, first.1, same))
     keeps_by all {s} p Lost found h sound below =
         subst (λ f. Keeps all (TakesBack f)) (visited_is w s found)
         (sound, subst (λ l. Below found.frames l all) h.0 below)
@@ -104,7 +78,7 @@ module _ (w : Ground) where
 
     keeps_back : (all : List MatchState) (frames : List Frame) (found : Search) → IsSound found.failed → Below frames [] all →
         Keeps all (back_to frames found)
-    keeps_back all [] found sound below = (sound, sym below, tt)
+    keeps_back all [] found sound below = (sound, sym below)
     keeps_back all (Other s ∷ frames) found sound below = (below.0, sound, below.1)
     keeps_back all (Fails s ∷ frames) found sound below = ((λ y e. sound_with y (same_pair (pair_of s) y) refl e), below.2)
       where

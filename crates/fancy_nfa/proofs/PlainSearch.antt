@@ -10,7 +10,7 @@ use Rattle.fancy_nfa.specs.NfaStates.{NfaState}
 use Rattle.fancy_nfa.specs.NfaCode.{states_of}
 use Rattle.fancy_nfa.specs.NfaSearch as search
 use Rattle.fancy_nfa.specs.NfaSearch.{NfaConfig, Pair, StepResult, pair_of, is_counted}
-use Rattle.fancy_nfa.specs.FirstWays.{AreEasy, FindsFirstWays, FailedSetIsSound, KeptFindTheWay}
+use Rattle.fancy_nfa.specs.FirstWays.{AreEasy, FindsFirstWays, FailedSetIsSound}
 use Rattle.fancy_nfa.proofs.Tasks.{Task, TaskStep, Found, Lost, Goes, Tries, task_step, tasks_of, TasksFit}
 use Rattle.fancy_nfa.proofs.Standing.{IsConfigOf}
 use Rattle.fancy_nfa.proofs.StepLaws.{IsStepOf}
@@ -29,7 +29,7 @@ use Rattle.fancy_nfa.proofs.FeeSums.{charge_of, IsNotable, charges_fit}
 use Rattle.fancy_nfa.proofs.Payments.{IsPaid, step_paid}
 use Rattle.fancy_nfa.proofs.Positions.{Ground, step_result_of, StepWeighs, StepFacts}
 use Rattle.fancy_nfa.proofs.Visits.{IsTriedPair, charges}
-use Rattle.fancy_nfa.proofs.FindsFirst.{ground, Measures, finds_first_ways, kept_lead, memoized_fail}
+use Rattle.fancy_nfa.proofs.FindsFirst.{ground, Measures, finds_first_ways, memoized_fail}
 
 module _ (q : Setting) (a : Analysis) (es : List Tree) where
   abbrev states : List NfaState
@@ -122,6 +122,3 @@ plain_search_finds = finds_first_ways (λ q a es is_text easy. measures q a es e
 
 pub failed_set_is_sound : FailedSetIsSound
 failed_set_is_sound = memoized_fail (λ q a es is_text easy. measures q a es easy)
-
-pub kept_find_the_way : KeptFindTheWay
-kept_find_the_way = kept_lead (λ q a es is_text easy. measures q a es easy)

@@ -90,19 +90,3 @@ FailedSetIsSound = (q : Setting) (a : Analysis) (es : List Tree) (failed : Pair 
     AreMemoized q.text q.unicode (states_of a.tree es) failed →
     searched q.text q.unicode (states_of a.tree es) failed place steps ≡ TakesUp s found →
     failed (pair_of s) ≡ true → HasNoWay q (states_of a.tree es) s
-
--- a search from this configuration that knows of no pair finds a way that is seen so
-abbrev pub FindsFrom : Setting → List NfaState → NfaConfig → Seen → Type 0
-FindsFrom q states s way =
-    (steps : ℕ) × (t : NfaConfig) × (found : Search)
-    × (after_steps q.text q.unicode states steps (TakesUp s (first_search (λ pair. false))) ≡ Ends (Some t) found)
-    × (seen_of t ≡ way)
-
--- where a search finds a way, each configuration that it kept to be memoized leads there
-abbrev pub KeptFindTheWay : Type 0
-KeptFindTheWay = (q : Setting) (a : Analysis) (es : List Tree) (failed : Pair → Bool) (place steps : ℕ)
-    (way : NfaConfig) (found : Search) (s : NfaConfig) →
-    IsText q.text → IsTrue (is_place q.text place) → AreEasy a es →
-    AreMemoized q.text q.unicode (states_of a.tree es) failed →
-    searched q.text q.unicode (states_of a.tree es) failed place steps ≡ Ends (Some way) found →
-    Contains found.frames (Fails s) → FindsFrom q (states_of a.tree es) s (seen_of way)

@@ -2,7 +2,7 @@
 //! does nothing.
 #![tactic(auto)]
 
-ghost use Rattle.fancy_nfa.specs.FirstWays.{FindsFirstWays, FailedSetIsSound, KeptFindTheWay};
+ghost use Rattle.fancy_nfa.specs.FirstWays.{FindsFirstWays, FailedSetIsSound};
 
 /// A plain search of neighbouring nodes that are easy comes to its end from every place, whatever was memoized
 /// before: what it finds is the first way of the nodes from there, as the plain meaning has it, or nothing where
@@ -15,10 +15,4 @@ pub fn plain_search_finds()
 /// which knows of no pair ends without a way.
 pub fn failed_set_is_sound()
     ensures { FailedSetIsSound }
-{}
-
-/// What a search keeps leads to its end: where it finds a way, a search that knows of no pair finds the same from each
-/// configuration that has still to be memoized.
-pub fn kept_find_the_way()
-    ensures { KeptFindTheWay }
 {}

@@ -1,5 +1,5 @@
 -- From the end of a search to what the first way answers.
-use Rattle.std.proofs.Common.{◌≡◌, ◌<◌, ◌≤◌, ◌+◌, ◌&&◌, [], ◌∷◌, slice_get, slice_index_or, true, nat_lt, if◌then◌else◌, ℕ, zero, suc, Bool, false, List, length, map, take, Option, Some, None, Result, Ok, Err, IfOk, IfSome, IsTrue, option_map, refl, sym, arith, ap, ◌∙◌, subst}
+use Rattle.std.proofs.Common.{◌≡◌, ◌<◌, ◌≤◌, ◌+◌, ◌&&◌, [], ◌∷◌, slice_get, slice_index_or, true, nat_lt, if◌then◌else◌, ℕ, zero, suc, Bool, false, List, length, map, take, Option, Some, None, Result, Ok, Err, IfOk, IsTrue, option_map, refl, sym, arith, ap, ◌∙◌, subst}
 use Rattle.std.proofs.lemmas.Bool.Decides.{nat_tests}
 use Rattle.std.proofs.lemmas.List.{take_all}
 use denote.Bor.{Bor}
@@ -32,10 +32,8 @@ use Rattle.fancy_backtrack.specs.BacktrackStack.{choices_of}
 use Rattle.fancy_backtrack.specs.Memos.{AreKept, HaveFailed, IsHere, IsSearch, Continuation, saturated}
 use Rattle.fancy_plain.specs.Searches.{EndsAs, continuation_of}
 use Rattle.fancy_plain.specs.FirstSets.{is_begun_by, may_begin}
-use Rattle.fancy_plain.specs.RequiredBytes.{AreRequired, lacks}
 use Rattle.fancy_plain.specs.Views.{state_of}
 use Rattle.fancy_plain.specs.Ways.{CountsVisits, HasNoWayAt, IsFirstWay, IsMemoOf, IsSeenAs, listed}
-use Rattle.fancy_plain.proofs.RequiredBytesLaws.{lacks_left}
 
 -- ---- a search has one end
 
@@ -259,13 +257,6 @@ no_way_found text f place is_text at finds_none = λ a es h pos continued.
 pub no_way_at : (text : List ℕ) (f : Nfa) (place : ℕ) → IsText text → IsTrue (is_place text place) →
     may_begin f.first_sets.items text place ≡ false → HasNoWayAt text f place
 no_way_at text f place is_text at out = no_way_found text f place is_text at (f.begin text place out)
-
--- where none of the bytes stands of which every way takes one, neither from the place on nor behind it
-pub no_way_behind : (text : List ℕ) (f : Nfa) (bytes : List Bool) (from : ℕ) → IsText text → f.required_bytes ≡ Some bytes →
-    lacks bytes text from ≡ true → (place : ℕ) → from ≤ place → IsTrue (is_place text place) → HasNoWayAt text f place
-no_way_behind text f bytes from is_text is out place behind at =
-    no_way_found text f place is_text at
-    (subst (λ o. IfSome o (AreRequired f.unicode (map state_of f.states.items))) is f.need text place (lacks_left bytes text from place behind out))
 
 pub excluded_byte : (levels : List (List Bool)) (ascii : List Bool) (byte : ℕ) → slice_get levels 0 ≡ Some ascii → byte < 128 →
     slice_index_or ascii byte false ≡ false → (text : List ℕ) (place : ℕ) → slice_get text place ≡ Some byte →

@@ -11,7 +11,6 @@ pub mod FirstWayLaws
 pub mod ReadStates
 pub mod KeptLaws
 pub mod FirstSetLaws
-pub mod RequiredBytesLaws
 pub mod GroupSpansLaws
 pub mod OnePassLaws
 pub mod CountedLaws

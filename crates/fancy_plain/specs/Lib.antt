@@ -14,7 +14,6 @@ pub mod AsciiRuns
 pub mod CountedWays
 pub mod BranchTables
 pub mod FailingBranches
-pub mod RequiredBytes
 pub mod LoopsInLoops
 pub mod LeadingLoops
 pub mod LeadingRuns

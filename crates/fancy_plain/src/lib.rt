@@ -13,7 +13,6 @@ pub mod leading_runs;
 pub mod nfa;
 mod nfa_state;
 pub mod one_pass;
-pub mod required_bytes;
 mod runs;
 mod search;
 mod test_runs;

@@ -1,7 +1,7 @@
 //! The NFA of neighbouring easy nodes.
 
 ghost use Rattle.std.specs.Option.{ForSome};
-ghost use Rattle.std.specs.Prelude.{◌≡◌, ◌<◌, ◌+◌, ℕ, List, Some, false, true, IfErr, IfOk, IfSome, IsTrue, length, map, slice_get};
+ghost use Rattle.std.specs.Prelude.{◌≡◌, ◌<◌, ◌+◌, ℕ, List, Some, false, true, IfErr, IfOk, IsTrue, length, map, slice_get};
 ghost use Rattle.fancy_info.specs.Infos.{info_tree};
 ghost use Rattle.fancy_expr.specs.Each.{Each};
 ghost use Rattle.fancy_meaning.specs.Options.{Analysis};
@@ -9,20 +9,17 @@ ghost use Rattle.fancy_meaning.specs.Places.{is_place};
 ghost use Rattle.fancy_meaning.specs.Premises.{IsText};
 ghost use Rattle.fancy_plain.specs.BranchTables.{AreTables};
 ghost use Rattle.fancy_plain.specs.FirstSets.{may_begin, AreFirstSets};
-ghost use Rattle.fancy_plain.specs.RequiredBytes.{AreRequired, IsOnlyOf};
 ghost use Rattle.fancy_plain.specs.LeadingLoops.{IsLeadingRun};
 ghost use Rattle.fancy_plain.specs.LoopsInLoops.{begins_loop, has_loop_in_loop, is_counter_loop};
 ghost use Rattle.fancy_plain.specs.Neighbours.{AreNeighbours, IsEasy};
 ghost use Rattle.fancy_plain.specs.Views.{state_of};
 ghost use Rattle.fancy_joining.specs.JoinedLoops.{joined};
-ghost use Rattle.std.proofs.Props.{props};
 
 use crate::branch_tables::BranchTables;
 use crate::first_sets::{first_sets, may_begin};
 use crate::layout::{Layout, room_for};
 use crate::leading_runs::leading_run;
 use crate::nfa_state::NfaState;
-use crate::required_bytes::{only_of, required_bytes};
 use crate::search::Searcher;
 use fancy_backtrack::memo::Memo;
 use fancy_backtrack::pair_bits::{Loops, PairBits};
@@ -36,24 +33,20 @@ pub struct Nfa {
     pub(crate) unicode: bool,
     /// Which bit a pair has that was found to have no way.
     pub(crate) pair_bits: PairBits,
+    /// How many loops that count are around the state that has most of them.
+    loop_depth: usize,
     /// The ASCII characters that can stand at a way's first places, level by level, beside any others.
     pub(crate) first_sets: Vec<[bool; 128]>,
     /// Whether ways seem to need no choice, and set no group.
     pub(crate) is_one_pass: bool,
     /// Where ways seem to need no choice and set groups, the first of these.
     pub(crate) one_pass_group: Option<usize>,
-    /// Bytes of which every way takes one, if some are known.
-    pub(crate) required_bytes: Option<[bool; 256]>,
-    /// That byte, where it is one alone.
-    pub(crate) required_byte: Option<u8>,
     /// Of alternations with many branches, which one comes next.
     pub(crate) branches: BranchTables,
     /// The state of the test of the greedy loop over one character with which each way begins, if there is one.
     pub(crate) leading_run: Option<usize>,
     ghost begin: { AreFirstSets unicode (map state_of states.items) first_sets.items },
-    ghost need: { IfSome required_bytes (AreRequired unicode (map state_of states.items)) } by { Prim.hlevel props },
     ghost tables: { AreTables unicode states.items branches },
-    ghost only: { ForSome required_byte (IsOnlyOf required_bytes) },
     ghost leads: { ForSome leading_run (λ at. ∥ IsLeadingRun states.items at ∥₁) },
 }
 
@@ -64,11 +57,10 @@ impl Drop for Nfa {
             states: _,
             unicode: _,
             pair_bits: _,
+            loop_depth: _,
             first_sets: _,
             is_one_pass: _,
             one_pass_group: _,
-            required_bytes: _,
-            required_byte: _,
             branches: _,
             leading_run: _,
         } = self;
@@ -125,10 +117,9 @@ impl Nfa {
         layout.lay_each(infos, may_join)?;
         let mut states = layout.states;
         states.push(NfaState::Match)?;
-        let pair_bits = PairBits::of(states.len(), loops_of(&states));
+        let loops = loops_of(&states);
+        let pair_bits = PairBits::of(states.len(), loops);
         let first_sets = first_sets(alloc, &states, unicode)?;
-        let required_bytes = required_bytes(&states, unicode);
-        let required_byte = only_of(&required_bytes);
         let branches = BranchTables::of(alloc, &states, unicode)?;
         let leading_run = leading_run(&states);
         let searcher = Searcher {
@@ -142,11 +133,10 @@ impl Nfa {
             states,
             unicode,
             pair_bits,
+            loop_depth: loops.depth,
             first_sets,
             is_one_pass: seems_one_pass && group.is_none(),
             one_pass_group: if seems_one_pass { group } else { None },
-            required_bytes,
-            required_byte,
             branches,
             leading_run,
         })
@@ -193,6 +183,14 @@ impl Nfa {
         ensures none { result ≡ false → HasNoWayAt text.now self.now ix }
     {
         may_begin(&self.first_sets, text.as_bytes(), ix)
+    }
+
+    /// How many loops that count are around the state that has most of them. A visit takes longer by each of them, since
+    /// their counts are part of a pair.
+    pub fn loop_depth(&self) -> usize
+        ensures { result ≡ self.now.loop_depth }
+    {
+        self.loop_depth
     }
 
     /// How many states it has.

@@ -10,6 +10,3 @@ pub mod PlacesLaws
 pub mod LeadingLaws
 pub mod LookLaws
 pub mod LookScanLaws
-pub mod WalkLaws
-pub mod AtomicPartsLaws
-pub mod RunPrefilterLaws

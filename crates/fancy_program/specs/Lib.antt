@@ -3,10 +3,7 @@ pub mod Programs
 pub mod StartPrefilters
 pub mod StartRuns
 pub mod Attempts
-pub mod Takes
-pub mod RunPrefilters
 pub mod SingleDelegates
 pub mod Strategies
 pub mod AsciiSets
 pub mod LookPrefilters
-pub mod Walks

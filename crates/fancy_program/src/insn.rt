@@ -8,14 +8,10 @@ ghost use Rattle.fancy_program.specs.declared.insn.Insn.{Insn};
 ghost use Rattle.fancy_program.specs.Attempts.{IsPrefilterOf};
 ghost use Rattle.fancy_program.specs.Insns.{insn_of, prog_with};
 ghost use Rattle.fancy_program.specs.LookPrefilters.{IsLookPrefilterOf};
-ghost use Rattle.fancy_program.specs.RunPrefilters.{IsRunPrefilterOf};
 ghost use Rattle.fancy_program.specs.Strategies.{IsStrategyOf};
-ghost use Rattle.fancy_program.specs.Walks.{IsRequired};
 
 use crate::look_prefilter::LookPrefilter;
 use crate::prefilter::StartPrefilter;
-use crate::required::Required;
-use crate::run_prefilter::RunPrefilter;
 use crate::strategy::Strategy;
 use fancy_characters::classes::{CaseiLiteral, CharClassMatcher};
 use fancy_characters::look::is_of_end;
@@ -157,18 +153,12 @@ pub struct Prog {
     pub prefilter: Option<StartPrefilter>,
     /// The same by the byte before, if there is none.
     pub look_prefilter: Option<LookPrefilter>,
-    /// What tells that attempts fail which begin with a run of characters, if the program has it.
-    pub run_prefilter: Option<RunPrefilter>,
     /// Which way its runs take.
     pub strategy: Strategy,
-    /// What each match takes, if it is known.
-    pub required: Option<Required>,
     ghost fits: { IsTrue (program_fits (prog_with body.items parts)) },
     ghost begins: { ForSome prefilter (IsPrefilterOf (map insn_of body.items)) },
     ghost looks: { ForSome look_prefilter (IsLookPrefilterOf (map insn_of body.items)) },
-    ghost runs: { ForSome run_prefilter (IsRunPrefilterOf (map insn_of body.items)) },
     ghost decides: { IsStrategyOf (map insn_of body.items) prefilter strategy },
-    ghost needs: { ForSome required (λ r. ∥ IsRequired (map insn_of body.items) r ∥₁) },
 }
 
 // Not derived: whoever owns one calls this drop, and would prove a derived one again (docs/GATE.md).
@@ -179,9 +169,7 @@ impl Drop for Prog {
             parts: _,
             prefilter: _,
             look_prefilter: _,
-            run_prefilter: _,
             strategy: _,
-            required: _,
         } = self;
     }
 }

@@ -9,8 +9,6 @@ pub mod look_prefilter;
 pub mod moves;
 pub mod prefilter;
 mod program;
-pub mod required;
-pub mod run_prefilter;
 mod shape;
 pub mod strategy;
 pub mod threads;

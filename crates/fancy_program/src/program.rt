@@ -9,8 +9,6 @@ ghost use Rattle.fancy_program.specs.Programs.{prog_of};
 use crate::insn::{Insn, Prog, ProgParts};
 use crate::look_prefilter::{LookPrefilter, look_prefilter_of};
 use crate::prefilter::StartPrefilter;
-use crate::required::required_in;
-use crate::run_prefilter::RunPrefilter;
 use crate::strategy::Strategy;
 use crate::threads::{crosses_threads, is_shared_by_threads};
 
@@ -28,17 +26,13 @@ impl Prog {
         let insns: &[Insn] = &body;
         let prefilter = StartPrefilter::of(insns);
         let look_prefilter = look_prefilter_of(insns, &prefilter);
-        let run_prefilter = RunPrefilter::of(insns);
         let strategy = Strategy::of(insns, &prefilter);
-        let required = required_in(insns, &prefilter);
         Prog {
             body,
             parts,
             prefilter,
             look_prefilter,
-            run_prefilter,
             strategy,
-            required,
         }
     }
 

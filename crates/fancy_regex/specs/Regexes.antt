@@ -59,6 +59,10 @@ AreAllApart r text = engine.AreAllApart r.engine text
 abbrev pub passed_in : Regex → Option SearchLimit
 passed_in r = engine.passed_in r.engine
 
+-- how much its last search did
+abbrev pub work_in : Regex → ℕ
+work_in r = engine.work_in r.engine
+
 -- A search that left it so told of a limit inside easy parts exactly where it passed that.
 abbrev pub TellsLimits : {A : Type 0} → Result A Error → Regex → Type 0
 TellsLimits result r = limit_in result ≡ passed_in r

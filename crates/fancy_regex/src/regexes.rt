@@ -16,7 +16,7 @@ ghost use Rattle.fancy_regex.specs.Found.{captures_names, shown_captures, shown_
 ghost use Rattle.fancy_regex.specs.Lists.{Begins, HaveNames, GivesCaptures, GivesMatch, captures_iteration, matches_iteration};
 ghost use Rattle.fancy_regex.specs.Names.{group_count, names_in};
 ghost use Rattle.fancy_regex.specs.Options.{default_options};
-ghost use Rattle.fancy_regex.specs.Regexes.{AreAllApart, FindsCaptures, FindsMatch, FindsWhether, IsNoLimitWhereEasy, IsRegexOf, IsReplacement, IsSame, TellsLimits, TellsLimitsInStep, engine_of, names_of, pattern_of};
+ghost use Rattle.fancy_regex.specs.Regexes.{AreAllApart, FindsCaptures, FindsMatch, FindsWhether, IsNoLimitWhereEasy, IsRegexOf, IsReplacement, IsSame, TellsLimits, TellsLimitsInStep, engine_of, names_of, pattern_of, work_in};
 ghost use Rattle.fancy_regex.specs.declared.options.RegexOptions.{RegexOptions};
 
 use crate::builder::RegexBuilder;
@@ -146,6 +146,14 @@ impl Regex {
             groups,
             names: Arc::try_clone(&self.names)?,
         })
+    }
+
+    /// How much the last search did: its visits and backtracks, and one for each eight instructions. It is 0 for a pattern for
+    /// which lazy DFAs may search, since that takes linear time.
+    pub fn work(&self) -> u64
+        ensures { result ≡ work_in self.now }
+    {
+        self.engine.work()
     }
 
     /// The groups of a match if there is one, with their names.

@@ -12,16 +12,15 @@ use Rattle.regex_hir.specs.Find.{Match, find_str}
 use Rattle.regex_hir.specs.Meaning.{meaning}
 use Rattle.regex_vm.specs.Found.{span}
 use Rattle.fancy_meaning.specs.Answer.{answer, search_of}
-use Rattle.fancy_meaning.specs.Config.{NoMatch}
 use Rattle.fancy_meaning.specs.Fits.{run_fits}
-use Rattle.fancy_meaning.specs.Machine as machine
 use Rattle.fancy_meaning.specs.Nodes.{group_count}
 use Rattle.fancy_meaning.specs.Numbering.{numbered}
 use Rattle.fancy_meaning.specs.Options as plain
-use Rattle.fancy_meaning.specs.Premises.{Input, IsText, plan}
+use Rattle.fancy_meaning.specs.Premises.{Input, plan}
 use Rattle.fancy_meaning.specs.Tree.{Tree}
 use Rattle.fancy_agreement.specs.Captures.{numbers_of}
 use Rattle.fancy_expr.specs.Views.{tree_of}
+use Rattle.fancy_expr.specs.declared.error.Error.{Error}
 use Rattle.fancy_hybrid.specs.Engines.{Searches}
 use Rattle.fancy_hybrid.specs.Patterns.{IsEngineOf, IsSearchFor, told}
 use Rattle.fancy_hybrid.specs.Translations.{IsTranslated}
@@ -32,10 +31,11 @@ use Rattle.fancy_hybrid.proofs.Answered.{answered}
 use Rattle.fancy_program.specs.Programs.{prog_of}
 use Rattle.fancy_program.specs.declared.insn.Prog.{Prog}
 use Rattle.fancy_steps.specs.Outcomes.{answer_in, first_pair}
+use Rattle.fancy_steps.specs.SearchLimits.{StaysWithin}
 use Rattle.fancy_steps.specs.Tasks.{options_of, task_of}
+use Rattle.fancy_steps.specs.declared.search_limits.SearchLimit.{SearchLimit}
 use Rattle.fancy_steps.specs.declared.options.RunOptions.{RunOptions}
 use Rattle.fancy_vm.specs.Means.{IsMeaning, IsMeaningPair, numbers_of as numbers_in}
-use Rattle.fancy_vm.proofs.MeaningLaws.{run_means}
 use Rattle.fancy_search.specs.Scratches.{IsGearOf}
 use Rattle.fancy_search.specs.Searches.{IsCompiledFrom, IsCopied, program}
 use Rattle.fancy_search.specs.declared.common.Common.{Common}
@@ -167,13 +167,11 @@ module _ (o few : RunOptions) (same : options_of few ≡ record (options_of o) {
         found ≡ option_map first_pair (answer (search_of (plan i) text (options_of o)))
     few_finds found means = means.answers i (accepted i compiled text o from fits) from.program ∙ ap (option_map first_pair) same_answer
 
-pub lacks_all : (compiled : Compiled) (text : List ℕ) (o : RunOptions) → IsText text → run_fits (task_of (program compiled) text o) ≡ true →
-    machine.run (task_of (program compiled) text o) ≡ NoMatch → (i : Input) → IsCompiledFrom i compiled →
-    answer (search_of (plan i) text (options_of o)) ≡ None
-lacks_all compiled text o is fits none i from =
-    sym ((run_means (prog_of (program compiled)) text (options_of o) is.utf8 is.fits (Ok None) fits none).answers i
-    (accepted i compiled text o from fits) from.program)
-
 pub if_ok : (r : Result Bool Stop) (P : Type 0) → P → IfOk r (λ _. P)
 if_ok (Ok found) P h = h
 if_ok (Err stop) P h = tt
+
+-- a search that passed no limit stays within whatever limits are set afterwards
+pub stays_after : {A : Type 0} (r : Result A Error) (passed after : Option SearchLimit) → StaysWithin r passed → passed ≡ None →
+    after ≡ None → StaysWithin r after
+stays_after r passed after stays none cleared = subst (StaysWithin r) (none ∙ sym cleared) stays

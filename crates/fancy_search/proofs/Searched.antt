@@ -4,6 +4,7 @@ use Rattle.std.specs.Prelude.{IfOk, IfSome, IsUtf8}
 use Rattle.std.specs.declared.vec.Vec.{Vec}
 use Rattle.std.specs.declared.alloc.Global.{Global}
 use Rattle.std.proofs.lemmas.Bool.{and_parts, and_from}
+use Rattle.std.proofs.lemmas.Option.{IfSome_then}
 use Rattle.std.proofs.lemmas.Str.{IsCharBoundary-start}
 use Rattle.std.specs.Str.{IsCharBoundary}
 use Rattle.regex.proofs.Utf8Lemmas.{test_of_IsCharBoundary}
@@ -41,7 +42,9 @@ use Rattle.fancy_compile.proofs.Known.{size_known}
 use Rattle.fancy_compile.proofs.Roots.{root_known}
 use Rattle.fancy_compile.specs.Compiled.{Compiles, MayAnswer, MayCompile, plan_with, refuses, too_big}
 use Rattle.fancy_search.specs.Copies.{IsCopyOf}
+use Rattle.fancy_search.specs.Needs.{IsNeededBy, IsNeededIn}
 use Rattle.fancy_search.specs.declared.common.Common.{Common}
+use Rattle.fancy_search.specs.declared.needed.Needed.{Needed}
 use Rattle.fancy_search.specs.declared.search.Compiled.{Compiled}
 use Rattle.fancy_search.specs.Searches as searches
 use Rattle.fancy_search.specs.declared.search.SearchOptions.{SearchOptions}
@@ -104,10 +107,11 @@ module _ (t : ExprTree) (context : AnalyzeContext) (o : CompileOptions) (ok : Is
     implicit = sym (ap (λ (x : AnalysisOptions). x.explicit_capture_group_0) ((h.root).node).options) ∙ is.implicit;
   }
 
-  pub compiled_from : (i : Info) (prog : Prog) (least : ℕ) (common : Option Common) → least ≡ (info_size i).least →
+  pub compiled_from : (i : Info) (prog : Prog) (least : ℕ) (common : Option Common) (needed : Option Needed) → least ≡ (info_size i).least →
       IsAnalysisOf t (analysis_options_of context) i → Compiles (plan_with analysed o) o.max_nesting (Ok prog) → IfSome common (IsCopyOf i o) →
-      IsCompiledFrom input (record { prog = prog; min_size = least; common = common })
-  compiled_from i prog least common is h compiled copy = record {
+      IfSome needed (IsNeededBy o.unicode (tree_of t.expr)) →
+      IsCompiledFrom input (record { prog = prog; min_size = least; common = common; needed = needed })
+  compiled_from i prog least common needed is h compiled copy takes = record {
     well_formed = ok.0;
     same_end_text = same_end_text;
     analysable = h.accepted;
@@ -119,6 +123,7 @@ module _ (t : ExprTree) (context : AnalyzeContext) (o : CompileOptions) (ok : Is
         (size_known i (analysis analysed) (root_known analysed i h.root) ∙ ap (size whole) (h.root).tree) in
         omega (arith, same);
     common = copied i h common copy;
+    needed = IfSome_then needed takes (λ n of. of input refl refl);
   }
 
 -- where group 0 is implicit, the tree is accepted

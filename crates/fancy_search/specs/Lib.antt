@@ -1,4 +1,5 @@
 pub mod Copies
+pub mod Needs
 pub mod Requests
 pub mod Searches
 pub mod Scratches

@@ -18,6 +18,10 @@ limits_of s = runs.limits_of s.runs
 abbrev pub cost_of : Scratch → SearchCost
 cost_of s = runs.cost_of s.runs
 
+-- how much its last search did
+abbrev pub work_of : Scratch → ℕ
+work_of s = runs.work_of s.runs
+
 -- the limit that its last search passed
 abbrev pub passed_of : Scratch → Option SearchLimit
 passed_of s = runs.passed_of s.runs

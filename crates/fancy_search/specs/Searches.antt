@@ -31,6 +31,7 @@ use Rattle.fancy_program.specs.Programs.{prog_of}
 use Rattle.fancy_compile.specs.declared.options.CompileOptions.{CompileOptions}
 use Rattle.fancy_compile.specs.Compiled.{compile_options_of, IsNestedOver as plan_nests_over}
 use Rattle.fancy_expr.specs.Errors.{error_of}
+use Rattle.fancy_search.specs.Needs.{IsNeededIn}
 use Rattle.fancy_search.specs.declared.common.Common.{Common}
 use Rattle.fancy_search.specs.declared.search.Compiled.{Compiled}
 use Rattle.fancy_search.specs.declared.search.SearchOptions.{SearchOptions}
@@ -148,6 +149,8 @@ module _ (i : Input) where
     pub least : compiled.min_size ≤ (size (plan i).analysis.tree (plan i).analysis.tree).least
     -- what it keeps for engines is the tree
     pub common : IfSome compiled.common IsCopied
+    -- each match takes what it looks for
+    pub needed : IfSome compiled.needed (IsNeededIn i)
 
 -- it was compiled from some tree
 abbrev pub HasSource : Compiled → Type 0

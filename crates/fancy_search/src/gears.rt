@@ -1,6 +1,6 @@
 //! Searches by an engine.
 
-ghost use Rattle.std.specs.Prelude.{◌≡◌, ℕ, IfOk, IsTrue, None, OnOk, false, is_some, option_map};
+ghost use Rattle.std.specs.Prelude.{◌≡◌, ℕ, IfOk, IfSome, IsTrue, None, OnOk, false, is_some, option_map};
 ghost use Rattle.fancy_meaning.specs.Answer.{answer, search_of};
 ghost use Rattle.fancy_meaning.specs.Fits.{run_fits};
 ghost use Rattle.fancy_meaning.specs.Premises.{Input, plan};
@@ -15,9 +15,7 @@ use crate::scratch::Scratch;
 use crate::search::Compiled;
 use fancy_expr::error::Error;
 use fancy_hybrid::search::{Stop, search_into};
-use fancy_steps::machine::Task;
-use fancy_vm::required_bytes::lacks_required;
-use fancy_vm::vm::{RunOptions, run_into, run_spans};
+use fancy_vm::vm::{RunOptions, SearchLimit, SearchLimits, run_into, run_spans};
 use std::alloc::Global;
 
 /// Whether these options ask for the first match at any start.
@@ -43,31 +41,6 @@ impl Compiled {
         self.common.is_some() && is_plain(options) && scratch.is_due()
     }
 
-    /// Whether the text lacks a byte that each match needs.
-    fn lacks_required(
-        &self,
-        alloc: Global,
-        text: &str,
-        options: &RunOptions,
-        scratch: &Scratch,
-    ) -> bool
-        requires { IsTrue (run_fits (task_of (program self.now) text.now options.now)) }
-        ensures { IsTrue result → (i : Input) → IsCompiledFrom i self.now
-            → answer (search_of (plan i) text.now (run_options_of options.now)) ≡ None }
-    {
-        if options.pos != 0 || options.anchored {
-            return false;
-        }
-        let task = Task {
-            prog: &self.prog,
-            text,
-            options,
-            alloc,
-            limits: scratch.limits(),
-        };
-        lacks_required(&task)
-    }
-
     /// Makes the tree's engine, unless the scratch holds it already or there is none.
     fn make_engine(&self, alloc: Global, scratch: &mut Scratch) -> Result<(), Stop>
         requires { Suits self.now scratch.old }
@@ -89,7 +62,7 @@ impl Compiled {
     }
 
     /// As `search_into`, by the engine, which may give up.
-    fn ask_into(
+    fn search_by_engine(
         &self,
         alloc: Global,
         text: &str,
@@ -117,33 +90,8 @@ impl Compiled {
         search_into(engine, text, options.pos, numbers)
     }
 
-    /// As `search_into`, by an engine, if the text has what each match takes; it may give up.
-    pub(crate) fn search_by_engine(
-        &self,
-        alloc: Global,
-        text: &str,
-        options: &RunOptions,
-        scratch: &mut Scratch,
-        numbers: &mut Vec<usize>,
-    ) -> Result<bool, Stop>
-        requires fits { IsTrue (run_fits (task_of (program self.now) text.now options.now)) }
-        requires suits { Suits self.now scratch.old }
-        ensures answers { (i : Input) → IsCompiledFrom i self.now → IfOk result (λ found.
-            answer (search_of (plan i) text.now (run_options_of options.now))
-            ≡ told found numbers.new.items) }
-        ensures limits { limits_of scratch.new ≡ limits_of scratch.old }
-        ensures stays { IfOk result (λ _. passed_of scratch.new ≡ None) }
-        ensures suits { Suits self.now scratch.new }
-    {
-        if self.lacks_required(alloc, text, options, scratch) {
-            scratch.limit(scratch.limits());
-            return Ok(false);
-        }
-        self.ask_into(alloc, text, options, scratch, numbers)
-    }
-
     /// As `find`, by the engine, which may give up.
-    fn ask_pair(
+    fn find_by_engine(
         &self,
         alloc: Global,
         text: &str,
@@ -173,28 +121,142 @@ impl Compiled {
         }
     }
 
-    /// As `find`, by an engine, if the text has what each match takes; it may give up.
-    pub(crate) fn find_by_engine(
+    /// The limits of a run after which an engine may still search for the tree.
+    fn short_limits(&self, options: &RunOptions, scratch: &Scratch) -> Option<SearchLimits> {
+        if self.common.is_none() || !is_plain(options) {
+            return None;
+        }
+        scratch.short_limits()
+    }
+
+    /// As `search_into`, by a run. If an engine may search, there is no answer once the run has taken many visits.
+    pub(crate) fn search_in_first_gear(
         &self,
         alloc: Global,
         text: &str,
         options: &RunOptions,
         scratch: &mut Scratch,
-    ) -> Result<Option<(usize, usize)>, Stop>
+        numbers: &mut Vec<usize>,
+    ) -> Option<Result<bool, Error>>
         requires fits { IsTrue (run_fits (task_of (program self.now) text.now options.now)) }
         requires suits { Suits self.now scratch.old }
-        ensures answers { (i : Input) → IsCompiledFrom i self.now → IfOk result (λ found. found
-            ≡ option_map first_pair
-            (answer (search_of (plan i) text.now (run_options_of options.now)))) }
+        ensures promise { (i : Input)
+            → IsCompiledFrom i self.now
+            → IfSome result (λ r.
+            Promises i text.now (run_options_of options.now) (answer_in r numbers.new)) }
+        ensures bounds { (i : Input)
+            → IsCompiledFrom i self.now
+            → IfSome result (λ r.
+            Bounds i text.now (run_options_of options.now) (answer_in r numbers.new)) }
         ensures limits { limits_of scratch.new ≡ limits_of scratch.old }
-        ensures stays { IfOk result (λ _. passed_of scratch.new ≡ None) }
+        ensures stays { IfSome result (λ r. StaysWithin r (passed_of scratch.new)) }
         ensures suits { Suits self.now scratch.new }
     {
-        if self.lacks_required(alloc, text, options, scratch) {
-            scratch.limit(scratch.limits());
-            return Ok(None);
+        let Some(short) = self.short_limits(options, scratch) else {
+            return Some(self.search_by_run(alloc, text, options, scratch, numbers));
+        };
+        let limits = scratch.limits();
+        scratch.limit(short);
+        let answer = self.search_by_run(alloc, text, options, scratch, numbers);
+        let passed = scratch.passed();
+        scratch.limit(limits);
+        match passed {
+            None => Some(answer),
+            Some(SearchLimit::Visits) => None,
+            Some(SearchLimit::Bytes) => Some(self.search_by_run(
+                alloc, text, options, scratch, numbers,
+            )),
         }
-        self.ask_pair(alloc, text, options, scratch)
+    }
+
+    /// As `find`, by a run. If an engine may search, there is no answer once the run has taken many visits.
+    pub(crate) fn find_in_first_gear(
+        &self,
+        alloc: Global,
+        text: &str,
+        options: &RunOptions,
+        scratch: &mut Scratch,
+    ) -> Option<Result<Option<(usize, usize)>, Error>>
+        requires fits { IsTrue (run_fits (task_of (program self.now) text.now options.now)) }
+        requires suits { Suits self.now scratch.old }
+        ensures promise { (i : Input)
+            → IsCompiledFrom i self.now
+            → IfSome result (PromisesPair i text.now (run_options_of options.now)) }
+        ensures limits { limits_of scratch.new ≡ limits_of scratch.old }
+        ensures stays { IfSome result (λ r. StaysWithin r (passed_of scratch.new)) }
+        ensures suits { Suits self.now scratch.new }
+    {
+        let Some(short) = self.short_limits(options, scratch) else {
+            return Some(self.find_by_run(alloc, text, options, scratch));
+        };
+        let limits = scratch.limits();
+        scratch.limit(short);
+        let answer = self.find_by_run(alloc, text, options, scratch);
+        let passed = scratch.passed();
+        scratch.limit(limits);
+        match passed {
+            None => Some(answer),
+            Some(SearchLimit::Visits) => None,
+            Some(SearchLimit::Bytes) => Some(self.find_by_run(alloc, text, options, scratch)),
+        }
+    }
+
+    /// As `search_into`, by an engine, or by a run if that gives up.
+    pub(crate) fn search_in_second_gear(
+        &self,
+        alloc: Global,
+        text: &str,
+        options: &RunOptions,
+        scratch: &mut Scratch,
+        numbers: &mut Vec<usize>,
+    ) -> Result<bool, Error>
+        requires fits { IsTrue (run_fits (task_of (program self.now) text.now options.now)) }
+        requires suits { Suits self.now scratch.old }
+        ensures promise { (i : Input)
+            → IsCompiledFrom i self.now
+            → Promises i text.now (run_options_of options.now) (answer_in result numbers.new) }
+        ensures bounds { (i : Input)
+            → IsCompiledFrom i self.now
+            → Bounds i text.now (run_options_of options.now) (answer_in result numbers.new) }
+        ensures limits { limits_of scratch.new ≡ limits_of scratch.old }
+        ensures stays { StaysWithin result (passed_of scratch.new) }
+        ensures suits { Suits self.now scratch.new }
+    {
+        match self.search_by_engine(alloc, text, options, scratch, numbers) {
+            Ok(found) => Ok(found),
+            Err(Stop::Memory) => Err(Error::Memory),
+            Err(Stop::GaveUp) => {
+                scratch.give_up_engine();
+                self.search_by_run(alloc, text, options, scratch, numbers)
+            }
+        }
+    }
+
+    /// As `find`, by an engine, or by a run if that gives up.
+    pub(crate) fn find_in_second_gear(
+        &self,
+        alloc: Global,
+        text: &str,
+        options: &RunOptions,
+        scratch: &mut Scratch,
+    ) -> Result<Option<(usize, usize)>, Error>
+        requires fits { IsTrue (run_fits (task_of (program self.now) text.now options.now)) }
+        requires suits { Suits self.now scratch.old }
+        ensures promise { (i : Input)
+            → IsCompiledFrom i self.now
+            → PromisesPair i text.now (run_options_of options.now) result }
+        ensures limits { limits_of scratch.new ≡ limits_of scratch.old }
+        ensures stays { StaysWithin result (passed_of scratch.new) }
+        ensures suits { Suits self.now scratch.new }
+    {
+        match self.find_by_engine(alloc, text, options, scratch) {
+            Ok(found) => Ok(found),
+            Err(Stop::Memory) => Err(Error::Memory),
+            Err(Stop::GaveUp) => {
+                scratch.give_up_engine();
+                self.find_by_run(alloc, text, options, scratch)
+            }
+        }
     }
 
     /// As `search_into`, by a run.
@@ -229,7 +291,7 @@ impl Compiled {
     }
 
     /// As `find`, by a run.
-    pub(crate) fn find_by_run(
+    fn find_by_run(
         &self,
         alloc: Global,
         text: &str,

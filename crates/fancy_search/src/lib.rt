@@ -3,6 +3,7 @@
 
 mod common;
 mod gears;
+mod needed;
 pub mod request;
 pub mod scratch;
 pub mod search;

@@ -11,6 +11,9 @@ use std::alloc::Global;
 /// An engine is made once runs have cost more than its searches would, by the cost of so many bytes.
 const PATIENCE: usize = 120_000;
 
+/// A run may take so many visits before an engine searches in its place.
+const FEW_VISITS: u64 = 100_000;
+
 /// In bytes that an engine reads: the cost of an attempt that fails at once, or of a state of a run.
 const ATTEMPT: usize = 12;
 
@@ -18,7 +21,7 @@ const ATTEMPT: usize = 12;
 const SEARCH: usize = 40;
 
 /// Memory that searches use again, and how much the delegates of a search may take. No answer depends on it: a search that
-/// passes a limit has none.
+/// exceeds a limit has none.
 ///
 /// Once runs have cost much, it holds an engine, if the kit has a pattern for the tree. Its lazy DFAs then search in place
 /// of runs. By the kit's budgets their tables have up to 8 MiB each, which no limit counts.
@@ -48,7 +51,7 @@ impl Drop for Scratch {
 
 impl Scratch {
     ghost use Rattle.fancy_search.specs.declared.search.Compiled.{Compiled};
-    ghost use Rattle.fancy_search.specs.Scratches.{Suits, cost_of, limits_of, passed_of};
+    ghost use Rattle.fancy_search.specs.Scratches.{Suits, cost_of, limits_of, passed_of, work_of};
 
     /// Holds no memory yet, and takes none. There is no limit.
     pub fn new(alloc: Global) -> Scratch
@@ -95,6 +98,15 @@ impl Scratch {
         self.runs.cost()
     }
 
+    /// How much the last search did: its visits and backtracks, and one for each eight instructions. One that exceeded a limit
+    /// counts with all instructions that it could have executed. A search that an engine may make counts nothing, since its time
+    /// is linear.
+    pub fn work(&self) -> u64
+        ensures { result ≡ work_of self.now }
+    {
+        self.runs.work()
+    }
+
     /// Drops the engine, so that searches for another tree may use this.
     pub fn forget_engine(&mut self)
         ensures suits { (compiled : Compiled) → Suits compiled self.new }
@@ -115,15 +127,6 @@ impl Scratch {
         self.engine = None;
     }
 
-    /// Drops the engine, and no other is made, as is best for a single search.
-    pub(crate) fn leave_to_runs(&mut self)
-        ensures suits { (compiled : Compiled) → Suits compiled self.new }
-        ensures runs { self.new.runs ≡ self.old.runs }
-    {
-        self.engine = None;
-        self.gave_up = true;
-    }
-
     /// Counts what a run cost that read so many bytes.
     pub(crate) fn count(&mut self, passed: usize)
         ensures runs { self.new.runs ≡ self.old.runs }
@@ -141,5 +144,18 @@ impl Scratch {
     /// Whether an engine is to be asked.
     pub(crate) fn is_due(&self) -> bool {
         !self.gave_up && (self.engine.is_some() || self.excess >= PATIENCE)
+    }
+
+    /// The limits of a run after which an engine may still search, if they are lower than those that were set.
+    pub(crate) fn short_limits(&self) -> Option<SearchLimits> {
+        let limits = self.limits();
+        let is_short = matches!(limits.visits, Some(most) if most <= FEW_VISITS);
+        if self.gave_up || is_short {
+            return None;
+        }
+        Some(SearchLimits {
+            visits: Some(FEW_VISITS),
+            bytes: limits.bytes,
+        })
     }
 }

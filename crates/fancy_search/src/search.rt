@@ -17,13 +17,13 @@ ghost use Rattle.fancy_search.specs.Searches as searches;
 ghost use Rattle.fancy_search.specs.Scratches.{Suits, limits_of, passed_of};
 
 use crate::common::{Common, common_of};
+use crate::needed::{Needed, needed_by};
 use crate::scratch::Scratch;
 use fancy_analysis::analyze::{AnalyzeContext, analyze};
 use fancy_characters::places::is_place;
 use fancy_compile::compile::{CompileOptions, compile};
 use fancy_expr::error::Error;
 use fancy_expr::expr::ExprTree;
-use fancy_hybrid::search::Stop;
 use fancy_vm::vm::{Prog, RunOptions};
 use std::alloc::Global;
 
@@ -99,6 +99,8 @@ pub struct Compiled {
     min_size: usize,
     /// The tree, if an engine may search for it.
     pub(crate) common: Option<Common>,
+    /// What each match takes, if something is known.
+    needed: Option<Needed>,
 }
 
 // Not derived: whoever owns one calls this drop, and would prove a derived one again (docs/GATE.md).
@@ -108,6 +110,7 @@ impl Drop for Compiled {
             prog: _,
             min_size: _,
             common: _,
+            needed: _,
         } = self;
     }
 }
@@ -139,10 +142,12 @@ impl Compiled {
         let min_size = info.min_size();
         let prog = compile(alloc, &info, options)?;
         let common = common_of(alloc, &info, options)?;
+        let needed = needed_by(alloc, &tree.expr, options.unicode)?;
         Ok(Compiled {
             prog,
             min_size,
             common,
+            needed,
         })
     }
 
@@ -161,6 +166,7 @@ impl Compiled {
             prog,
             min_size: _,
             common: _,
+            needed: _,
         } = self;
         prog
     }
@@ -173,6 +179,28 @@ impl Compiled {
             → answer (search_of (plan i) text.now o) ≡ None }
     {
         self.exceeds_rest(text, pos)
+    }
+
+    /// Whether the text lacks what each match takes: a search from byte `pos` of the text on finds no match.
+    fn lacks_needed(&self, text: &str, pos: usize) -> bool
+        ensures { IsTrue result → (i : Input) (o : plain.RunOptions)
+            → IsCompiledFrom i self.now → o.pos ≡ pos
+            → answer (search_of (plan i) text.now o) ≡ None }
+    {
+        match &self.needed {
+            None => false,
+            Some(needed) => needed.is_missing(text, pos),
+        }
+    }
+
+    /// Whether it is known without a run that a search from byte `pos` of the text on finds no match.
+    #[inline(always)]
+    fn has_none(&self, text: &str, pos: usize) -> bool
+        ensures { IsTrue result → (i : Input) (o : plain.RunOptions)
+            → IsCompiledFrom i self.now → IsTrue (is_place text.now pos) → o.pos ≡ pos
+            → answer (search_of (plan i) text.now o) ≡ None }
+    {
+        self.is_too_short(text, pos) || self.lacks_needed(text, pos)
     }
 
     /// Whether each match has more characters than there are bytes from byte `pos` of the text on.
@@ -192,8 +220,8 @@ impl Compiled {
     }
 
     /// Searches the text from byte `options.pos` on. Returns start and end of each group from 0 up, in bytes of the text,
-    /// with `usize::MAX` twice for a group that is not set, or `None` if there is no match. If `is_too_short`, there is no
-    /// match, and nothing is run.
+    /// with `usize::MAX` twice for a group that is not set, or `None` if there is no match. Nothing is run if `is_too_short`, or
+    /// if the text lacks a literal or a byte that each match takes.
     ///
     /// # Errors
     ///
@@ -252,21 +280,42 @@ impl Compiled {
         ensures stays { StaysWithin result (passed_of scratch.new) }
         ensures suits { Suits self.now scratch.new }
     {
-        if self.is_too_short(text, options.pos) {
+        if self.has_none(text, options.pos) {
             scratch.limit(scratch.limits());
             return Ok(false);
         }
-        if !self.is_due(options, scratch) {
-            return self.search_by_run(alloc, text, options, scratch, numbers);
+        if self.is_due(options, scratch) {
+            return self.search_in_second_gear(alloc, text, options, scratch, numbers);
         }
-        match self.search_by_engine(alloc, text, options, scratch, numbers) {
-            Ok(found) => Ok(found),
-            Err(Stop::Memory) => Err(Error::Memory),
-            Err(Stop::GaveUp) => {
-                scratch.give_up_engine();
-                self.search_by_run(alloc, text, options, scratch, numbers)
-            }
+        match self.search_in_first_gear(alloc, text, options, scratch, numbers) {
+            Some(answer) => answer,
+            None => self.search_in_second_gear(alloc, text, options, scratch, numbers),
         }
+    }
+
+    /// As `search`, by a run alone: a search that exceeds a limit says so.
+    fn run(
+        &self,
+        alloc: Global,
+        text: &str,
+        options: &RunOptions,
+        scratch: &mut Scratch,
+    ) -> Result<Option<Vec<usize>>, Error>
+        requires fits { IsTrue (run_fits (task_of (program self.now) text.now options.now)) }
+        requires suits { Suits self.now scratch.old }
+        ensures promise { (i : Input)
+            → IsCompiledFrom i self.now
+            → Promises i text.now (run_options_of options.now) result }
+        ensures bounds { (i : Input)
+            → IsCompiledFrom i self.now
+            → Bounds i text.now (run_options_of options.now) result }
+    {
+        let mut numbers = Vec::new(alloc);
+        if self.is_too_short(text, options.pos) {
+            return Ok(None);
+        }
+        let found = self.search_by_run(alloc, text, options, scratch, &mut numbers)?;
+        Ok(if found { Some(numbers) } else { None })
     }
 
     /// As `search`, with the first pair of its numbers for an answer: start and end of the match in bytes.
@@ -286,20 +335,16 @@ impl Compiled {
         ensures stays { StaysWithin result (passed_of scratch.new) }
         ensures suits { Suits self.now scratch.new }
     {
-        if self.is_too_short(text, options.pos) {
+        if self.has_none(text, options.pos) {
             scratch.limit(scratch.limits());
             return Ok(None);
         }
-        if !self.is_due(options, scratch) {
-            return self.find_by_run(alloc, text, options, scratch);
+        if self.is_due(options, scratch) {
+            return self.find_in_second_gear(alloc, text, options, scratch);
         }
-        match self.find_by_engine(alloc, text, options, scratch) {
-            Ok(found) => Ok(found),
-            Err(Stop::Memory) => Err(Error::Memory),
-            Err(Stop::GaveUp) => {
-                scratch.give_up_engine();
-                self.find_by_run(alloc, text, options, scratch)
-            }
+        match self.find_in_first_gear(alloc, text, options, scratch) {
+            Some(answer) => answer,
+            None => self.find_in_second_gear(alloc, text, options, scratch),
         }
     }
 }
@@ -348,6 +393,6 @@ pub fn search(
         result }
 {
     let compiled = Compiled::new(alloc, tree, options.analysis, options.compilation)?;
-    scratch.leave_to_runs();
-    compiled.search(alloc, text, &options.run, scratch)
+    scratch.forget_engine();
+    compiled.run(alloc, text, &options.run, scratch)
 }

@@ -45,8 +45,8 @@ pub struct Machine<'a> {
     pub backtracks: usize,
     /// How many instructions after the first one stand for the last step that passed over starts.
     pub passed: u64,
-    /// The run prefilter was asked of all starts before this byte: in vain, where the search comes to one.
-    pub(crate) asked: usize,
+    /// How many of the instructions that the run may execute were left when it ended; 0 before, and after an error.
+    pub left: u64,
     pub state: State,
     /// The longest match so far, where the longest is asked for.
     pub longest: Longest,
@@ -177,7 +177,7 @@ impl<'a> Machine<'a> {
             start: pos,
             backtracks: 0,
             passed: 0,
-            asked: 0,
+            left: 0,
             state,
             longest,
             trailing_newlines: TrailingNewlines::new(),

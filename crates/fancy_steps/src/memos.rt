@@ -205,14 +205,6 @@ impl Memos {
         }
     }
 
-    /// One pass that tells nothing may be made once more in this run.
-    #[inline(always)]
-    pub fn allow_one_pass(&mut self)
-        ensures { (task : tasks.Task) → AreMemosOf task self.old → AreMemosOf task self.new }
-    {
-        self.unknown = self.unknown.min(MOST_UNKNOWN - 1);
-    }
-
     /// The first way from `ix` of the fragment at `pc` of the program: by one pass, or else by a search with what earlier
     /// ones have noted in this run. Its groups are held. It is not known if an allocation fails or visits are too many.
     pub fn held_way(

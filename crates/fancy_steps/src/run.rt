@@ -33,12 +33,19 @@ impl Machine<'_> {
                 Next::Passed => {
                     left = left.saturating_sub(self.passed);
                     if self.has_one_start() && self.is_over(left) {
+                        self.left = left;
                         return Ok(false);
                     }
                 }
                 Next::Fails => unreachable!(),
-                Next::Matches => return Ok(true),
-                Next::Ends => return Ok(false),
+                Next::Matches => {
+                    self.left = left;
+                    return Ok(true);
+                }
+                Next::Ends => {
+                    self.left = left;
+                    return Ok(false);
+                }
             }
         }
         Err(Stop::Limit(RuntimeError::StepLimitExceeded))

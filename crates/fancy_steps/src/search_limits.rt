@@ -1,10 +1,10 @@
 //! How much the searches of a run's delegates may take together, and what they took.
 
-ghost use Rattle.std.specs.Prelude.{◌≡◌, ◌+◌, ◌-◌, min, None, IfOk, IsTrue, OnOk};
+ghost use Rattle.std.specs.Prelude.{◌≡◌, ◌+◌, ◌-◌, ◌*◌, ◌/◌, ◌<◌, min, None, IfOk, IsTrue, OnOk};
 ghost use Rattle.fancy_meaning.specs.Places.{is_place};
 ghost use Rattle.fancy_fragments.specs.Fragments.{IsFirstWayOf, IsJoinedMemoFor};
 ghost use Rattle.fancy_plain.specs.Ways.{HasAscending};
-ghost use Rattle.fancy_steps.specs.SearchLimits.{held_by, left_of, no_cost, no_limits, passed_by};
+ghost use Rattle.fancy_steps.specs.SearchLimits.{held_by, left_of, no_cost, no_limits, passed_by, visit_cost};
 
 use crate::machine::Task;
 use fancy_backtrack::budget::Budget;
@@ -18,7 +18,7 @@ use fancy_plain::first_way::FirstWay;
 /// limit they may take as much as can be counted.
 #[derive(Clone, Copy, Debug)]
 pub struct SearchLimits {
-    /// How many states they may take up.
+    /// How many states they may take up. A state inside loops that count costs one more for each of these.
     pub visits: Option<u64>,
     /// How many bytes what they keep may hold at one time, and as many the branches of the run and its log together. Those
     /// are looked at where a branch is added to a multiple of 64.
@@ -40,6 +40,14 @@ pub struct SearchCost {
     /// How many bytes what these keep holds, or its branches and its log, whichever is more. Where bytes are not limited
     /// they are not counted.
     pub bytes: usize,
+}
+
+/// As how many visits one of the fragment's states counts: the counts of the loops around it are part of what is memoized.
+fn visit_cost(fragment: &Fragment) -> u64
+    ensures cost { result ≡ visit_cost fragment.now }
+    ensures some { 0 < result }
+{
+    (fragment.nfa().loop_depth() as u64).saturating_add(1)
 }
 
 impl SearchLimits {
@@ -82,16 +90,17 @@ impl SearchLimits {
         }
     }
 
-    /// What a search may take behind others of this cost.
+    /// What a search may take behind others of this cost, if each of its visits counts as so many.
     #[inline(always)]
-    fn left(&self, cost: SearchCost) -> Budget
-        ensures visits { result.visits ≡ left_of u64.MAX self.now.visits cost.visits }
+    fn left(&self, cost: SearchCost, each: u64) -> Budget
+        requires { 0 < each }
+        ensures visits { result.visits ≡ left_of u64.MAX self.now.visits cost.visits / each }
         ensures bytes { result.bytes ≡ left_of usize.MAX self.now.bytes cost.bytes }
     {
         Budget {
             visits: match self.visits {
-                None => u64::MAX,
-                Some(most) => most.saturating_sub(cost.visits),
+                None => u64::MAX / each,
+                Some(most) => most.saturating_sub(cost.visits) / each,
             },
             bytes: match self.bytes {
                 None => usize::MAX,
@@ -129,18 +138,20 @@ impl SearchCost {
         ensures memo { IsJoinedMemoFor task.now.text.now fragment.now memo.new }
         ensures within { OnOk result (passed_by task.now.limits self.new ≡ None) }
         ensures visits { IfOk result
-            (λ found. self.new.visits ≡ min u64.MAX (self.old.visits + found.visits)) }
+            (λ found. self.new.visits
+            ≡ min u64.MAX (self.old.visits + found.visits * visit_cost fragment.now)) }
         ensures bytes { self.new.bytes ≡ min usize.MAX
             (self.old.bytes - held_by task.now.limits memo.old + held_by task.now.limits memo.new) }
     {
         self.bytes = self.bytes.saturating_sub(task.limits.held(memo));
-        memo.limit(task.limits.left(*self));
+        let each = visit_cost(fragment);
+        memo.limit(task.limits.left(*self, each));
         let way = first_way_joined(task.alloc, fragment, task.text, ix, memo);
         let visits = match &way {
             Ok(found) => found.visits,
             Err(_) => memo.visits(),
         };
-        self.visits = self.visits.saturating_add(visits);
+        self.visits = self.visits.saturating_add(visits.saturating_mul(each));
         self.bytes = self.bytes.saturating_add(task.limits.held(memo));
         if task.limits.passed_by(*self).is_some() {
             return Err(Error::Memory);

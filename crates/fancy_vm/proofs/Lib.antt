@@ -3,4 +3,3 @@ pub mod SteppersLaws
 pub mod MeaningLaws
 pub mod BoundsLaws
 pub mod SingleDelegateLaws
-pub mod RequiredLaws

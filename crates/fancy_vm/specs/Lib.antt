@@ -1,5 +1,5 @@
 pub mod Ready
-pub mod StartFilters
+pub mod PassedStarts
 pub mod Means
 pub mod Bounds
 pub mod Steppers

@@ -1,6 +1,7 @@
 -- What a scratch holds, and what its last run took.
-use Rattle.std.specs.Prelude.{◌≡◌, ℕ, Option, Some, None}
+use Rattle.std.specs.Prelude.{◌≡◌, ◌+◌, ℕ, min, Option, Some, None}
 use Rattle.std.specs.declared.alloc.Global.{Global}
+use Rattle.fancy_meaning.specs.Numbers.{usize_max}
 use Rattle.fancy_steps.specs.SearchLimits.{no_cost, passed_by}
 use Rattle.fancy_steps.specs.declared.memos.Memos.{Memos}
 use Rattle.fancy_steps.specs.declared.search_limits.SearchCost.{SearchCost}
@@ -15,7 +16,7 @@ allocator_of s = (s.room).alloc
 -- it holds no memory
 abbrev pub IsUnused : Scratch → Type 0
 IsUnused s =
-    ((s.room).state ≡ None) × (((s.room).memos ≡ None) × (((s.room).longest ≡ None) × (((s.room).filters).filter ≡ None)))
+    ((s.room).state ≡ None) × (((s.room).memos ≡ None) × ((s.room).longest ≡ None))
 
 abbrev pub cost_in : Option Memos → SearchCost
 cost_in None = no_cost
@@ -28,9 +29,13 @@ limits_of s = s.limits
 abbrev pub cost_of : Scratch → SearchCost
 cost_of s = cost_in (s.room).memos
 
+-- how much its last run did
+abbrev pub work_of : Scratch → ℕ
+work_of s = min usize_max ((cost_of s).visits + (s.room).work)
+
 -- what failed attempts of its runs took
 abbrev pub spent_of : Scratch → ℕ
-spent_of s = ((s.room).filters).spent
+spent_of s = (s.room).spent
 
 -- the limit that its last run passed
 abbrev pub passed_of : Scratch → Option SearchLimit

@@ -17,7 +17,6 @@ ghost use Rattle.fancy_program.specs.Programs.{prog_of};
 ghost use Rattle.fancy_vm.specs.Scratches.{IsUnused, allocator_of, limits_of, passed_of};
 ghost use Rattle.fancy_steps.specs.Tasks.{default_at, default_task, options_of, task_of};
 
-use crate::start_filters::StartFilters;
 use crate::strategy::{Found, run_by_strategy, write_groups, write_pair};
 use fancy_expr::error::Error;
 use fancy_program::insn::Prog;
@@ -44,13 +43,24 @@ impl Drop for Scratch {
     }
 }
 
+/// A failed attempt that takes up so many states counts as one more.
+const VISITS: u64 = 8;
+
+/// So many instructions of the machine take about as long as a visit or a backtrack.
+const STEPS: u64 = 8;
+
 /// The memory of a scratch.
 pub(crate) struct Room {
     alloc: Global,
     state: Option<State>,
     pub(crate) memos: Option<Memos>,
     longest: Option<Longest>,
-    pub(crate) filters: StartFilters,
+    /// How many states the run had taken up when the last attempt failed.
+    visits: u64,
+    /// How many attempts of single-delegate runs failed in all; one that took up many states counts as several.
+    spent: usize,
+    /// What the machine of the last run did: its backtracks, and one for each eight instructions.
+    work: u64,
 }
 
 // Not derived: whoever owns one calls this drop, and would prove a derived one again (docs/GATE.md).
@@ -61,14 +71,16 @@ impl Drop for Room {
             state: _,
             memos: _,
             longest: _,
-            filters: _,
+            visits: _,
+            spent: _,
+            work: _,
         } = self;
     }
 }
 
 impl Scratch {
     ghost use Rattle.fancy_steps.specs.SearchLimits.{no_cost};
-    ghost use Rattle.fancy_vm.specs.Scratches.{cost_of, spent_of};
+    ghost use Rattle.fancy_vm.specs.Scratches.{cost_of, spent_of, work_of};
 
     /// Holds no memory yet, and takes none. There is no limit.
     pub fn new(alloc: Global) -> Scratch
@@ -84,7 +96,9 @@ impl Scratch {
                 state: None,
                 memos: None,
                 longest: None,
-                filters: StartFilters::new(),
+                visits: 0,
+                spent: 0,
+                work: 0,
             },
         }
     }
@@ -120,11 +134,19 @@ impl Scratch {
         self.room.cost()
     }
 
+    /// How much the last run did: its visits and backtracks, and one for each eight instructions. A run that exceeded a limit
+    /// counts with all instructions that it could have executed.
+    pub fn work(&self) -> u64
+        ensures { result ≡ work_of self.now }
+    {
+        self.room.cost().visits.saturating_add(self.room.work)
+    }
+
     /// What failed attempts of all runs took that searched for one fragment, in attempts that read little.
     pub fn spent(&self) -> usize
         ensures { result ≡ spent_of self.now }
     {
-        self.room.filters.spent
+        self.room.spent
     }
 }
 
@@ -297,10 +319,22 @@ impl Room {
         }
     }
 
+    /// Counts an attempt that failed, after which walks of the run have cost so many visits.
+    #[inline(always)]
+    pub(crate) fn count_attempt(&mut self, walked: usize)
+        ensures { self.new.memos ≡ self.old.memos }
+    {
+        let visits = self.cost().visits.saturating_add(walked as u64);
+        let taken = visits.saturating_sub(self.visits) / VISITS;
+        self.visits = visits;
+        self.spent = self.spent.saturating_add(taken.saturating_add(1) as usize);
+    }
+
     /// The delegates of this run took nothing yet.
     fn forget_cost(&mut self)
         ensures { cost_in self.new.memos ≡ no_cost }
     {
+        self.work = 0;
         if let Some(memos) = &mut self.memos {
             memos.forget_cost();
         }
@@ -461,6 +495,8 @@ impl Room {
         if wants_memory && m.is_past_bytes() {
             self.count_bytes(m.state.bytes());
         }
+        let executed = m.task.options.step_limit.saturating_sub(m.left);
+        self.work = (executed / STEPS).saturating_add(m.backtracks as u64);
         let Machine { state, longest, .. } = m;
         self.state = Some(state);
         self.longest = Some(longest);

@@ -4,7 +4,6 @@
 mod all;
 mod arrows;
 mod batch;
-mod blame;
 mod commands;
 mod dot;
 mod excerpt;

@@ -6,6 +6,7 @@
 use crate::nodes::{has_brackets, push_head, push_unquoted};
 use fancy_expr::expr::{Absent, Expr};
 use fancy_expr::parts::{part, part_count};
+use fancy_faults::leaves::is_plain;
 use fancy_vm::vm::{Insn, Prog};
 use std::alloc::{AllocError, Global};
 
@@ -16,7 +17,7 @@ const FIRST: usize = 0xf0000;
 const MOST_LEAVES: usize = 50_000;
 
 /// How deep the nodes are that are written.
-pub const MOST_LEVELS: usize = 1_010;
+const MOST_LEVELS: usize = 1_010;
 
 /// A node that has a mark, and which leaves of the tree it is or has below it: from this one up to another, counted without
 /// those that are empty. Its depth is how many nodes with marks are on the way to it from the tree's start: of the
@@ -38,11 +39,6 @@ pub struct Marked<'e> {
     pub passed: usize,
     /// The depth of the next node with a mark.
     depth: usize,
-}
-
-/// Whether the node has no node below it, and is not empty.
-pub fn is_plain(expr: &Expr) -> bool {
-    !matches!(expr, Expr::Empty) && part_count(expr) == 0
 }
 
 /// Whether a run can fail at the node, and nothing below it is marked.

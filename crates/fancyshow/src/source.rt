@@ -9,15 +9,13 @@ use crate::request::Request;
 use fancy_analysis::limit::is_analysis_within;
 use fancy_command::command::MOST_DEPTH;
 use fancy_expr::expr::ExprTree;
+pub use fancy_faults::leaves::Span;
+use fancy_faults::leaves::leaf_spans as spans_in;
 use fancy_notation::depth::depth;
 use fancy_notation::notation::read_tree;
-use fancy_pattern::atom_spans::{AtomSpan, atom_spans};
 use fancy_pattern::options::ParseOptions;
 use fancy_pattern::pattern::parse_tree;
 use std::alloc::{AllocError, Global};
-
-/// Start and end of a part of a text, in bytes.
-pub type Span = (usize, usize);
 
 /// The tree that is asked about.
 pub fn read(alloc: Global, request: &Request) -> Result<ExprTree, Trouble>
@@ -71,35 +69,9 @@ pub fn leaf_spans(alloc: Global, request: &Request) -> Result<Vec<Span>, AllocEr
     if request.is_tree {
         return Ok(Vec::new(alloc));
     }
-    let pattern = request.source.as_str();
-    let bytes = character_bytes(alloc, pattern)?;
-    let atoms = atom_spans(alloc, pattern, parsing(!request.arguments.ascii))?;
-    spans_of(alloc, &atoms, &bytes, pattern.len())
-}
-
-/// The span of each leaf of the atoms. A character begins at its byte of these, and the text ends at `end`.
-fn spans_of(
-    alloc: Global,
-    atoms: &[AtomSpan],
-    bytes: &[usize],
-    end: usize,
-) -> Result<Vec<Span>, AllocError> {
-    let mut spans = Vec::new(alloc);
-    for atom in atoms {
-        let first = bytes.get(atom.start).copied().unwrap_or(end);
-        let last = bytes.get(atom.end).copied().unwrap_or(end);
-        for _ in 0..atom.leaves {
-            spans.push((first, last))?;
-        }
-    }
-    Ok(spans)
-}
-
-/// The byte where each character begins.
-fn character_bytes(alloc: Global, text: &str) -> Result<Vec<usize>, AllocError> {
-    let mut bytes = Vec::new(alloc);
-    for (at, _) in text.char_indices() {
-        bytes.push(at)?;
-    }
-    Ok(bytes)
+    spans_in(
+        alloc,
+        request.source.as_str(),
+        parsing(!request.arguments.ascii),
+    )
 }

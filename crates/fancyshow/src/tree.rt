@@ -2,11 +2,8 @@
 
 ghost use Rattle.fancy_expr.specs.Sound.{IsWellFormedTree};
 
-use crate::blame::{Node, Whole, is_blamed};
 use crate::excerpt::{push_shown, push_times, push_to_column};
-use crate::faults::words as refusal_words;
 use crate::list::compile;
-use crate::marks::is_plain;
 use crate::nodes::{group_of, push_node};
 use crate::outcome::Trouble;
 use crate::refusals::refusal;
@@ -17,6 +14,9 @@ use fancy_command::command::MOST_DEPTH;
 use fancy_expr::error::{CompileError, Error};
 use fancy_expr::expr::{Expr, ExprTree};
 use fancy_expr::parts::part_count;
+use fancy_faults::blame::{Node, Whole, is_blamed};
+use fancy_faults::leaves::is_plain;
+use fancy_faults::words::words as refusal_words;
 use fancy_info::info::Info;
 use fancy_railroad::names::GroupNames;
 use std::alloc::{AllocError, Global};

@@ -84,15 +84,31 @@ class Errors(unittest.TestCase):
             (r"\q", "InvalidEscape", 1),
             ("(?z)", "UnknownFlag", 2),
             ("(?<1a>a)", "InvalidGroupName", 3),
-            (r"(?<n>a)\k<m>", "UnresolvedAstNode", None),
-            (r"(a)\2", "InvalidBackref", None),
-            ("(a\\g<1>)", "NeverEndingRecursion", None),
+            (r"(?<n>a)\k<m>", "UnresolvedAstNode", 7),
+            (r"é\g<m>", "SubroutineCallTargetNotFound", 1),
+            (r"(a)\2", "InvalidBackref", 3),
+            ("(a\\g<1>)", "NeverEndingRecursion", 2),
             ("[a&&[b]", "InvalidClass", 7),
-            ("[b-a]", "InnerError", None),
+            ("é|[b-a]", "InnerError", 2),
+            ("(?<=ab|c)(?<!xa+)b", "VariableLookBehindRequiresFeature", 13),
+            (r"x(?<n>(?:\g<n>|a)b)", "LeftRecursiveSubroutineCall", 9),
+            ("ab(*SKIP)", "FeatureNotYetSupported", 2),
         ]:
             with self.assertRaises(fancy.error) as caught:
                 fancy.compile(pattern)
             self.assertEqual((caught.exception.name, caught.exception.pos), (name, pos), pattern)
+
+    def test_messages(self):
+        for pattern, message, pos in [
+            (r"(?<n>a)\k<m>", "there is no group named 'm'", 7),
+            (r"(a)\2", "there is no group 2", 3),
+            ("é[b-a]", "the class [b-a] is invalid", 1),
+            (r"x(?<n>(?:\g<n>|a)b)", "group 'n' (1) calls itself before it matches a character", 9),
+        ]:
+            with self.assertRaises(fancy.error) as caught:
+                fancy.compile(pattern)
+            self.assertTrue(caught.exception.msg.startswith(message), caught.exception.msg)
+            self.assertEqual(str(caught.exception), f"{caught.exception.msg} at position {pos}")
 
     def test_limits(self):
         pattern = fancy.compile(r"(a|b|ab)*(?=c)c\1", backtrack_limit=1000)

@@ -138,7 +138,7 @@ fn name_of(error: Error, is_pattern: bool) -> String {
         Error::ParseError(at, ParseError::InvalidBackref) => format!("InvalidBackrefNumber {at}"),
         Error::ParseError(at, kind) => format!("{kind:?} {at}"),
         Error::RuntimeError(limit) => format!("{limit:?}"),
-        Error::CompileError(refusal) => match *refusal {
+        Error::CompileError(refusal) => match &*refusal {
             CompileError::InvalidBackref(group) => format!("InvalidBackref {group}"),
             // what it carries is text
             refusal => {

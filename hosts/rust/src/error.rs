@@ -2,6 +2,7 @@
 
 use fancy_sys as sys;
 use std::fmt;
+use std::ops::Deref;
 
 /// What a call that may fail returns.
 pub type Result<T> = std::result::Result<T, Error>;
@@ -16,11 +17,22 @@ pub enum Error {
     /// The pattern cannot be read: the byte of the pattern where it fails, and what is wrong there.
     ParseError(ParseErrorPosition, ParseError),
     /// The pattern can be read, and is refused.
-    CompileError(Box<CompileError>),
+    CompileError(Refusal),
     /// A search exceeds a limit.
     RuntimeError(RuntimeError),
     /// Out of memory: an allocation of the library failed.
     Memory,
+}
+
+/// Why a pattern that can be read is refused, and where. By `*` it is its `CompileError`, and equal to another if that is.
+#[derive(Clone, Debug)]
+pub struct Refusal(Box<Refused>);
+
+#[derive(Clone, Debug)]
+struct Refused {
+    kind: CompileError,
+    at: Option<usize>,
+    message: String,
 }
 
 /// What is wrong with a pattern that cannot be read.
@@ -127,15 +139,73 @@ impl Error {
             };
             return Error::ParseError(at, kind);
         }
-        match CompileError::of(outcome, explain) {
-            Some(refusal) => refusal.into(),
-            None if outcome.code == sys::FANCY_MEMORY => Error::Memory,
+        if outcome.code == sys::FANCY_MEMORY {
+            return Error::Memory;
+        }
+        let at = (outcome.byte != sys::FANCY_UNSET).then_some(outcome.byte);
+        let message = without_place(explain(), at);
+        match CompileError::of(outcome, &message) {
+            Some(kind) => Error::CompileError(Refusal::new(kind, at, message)),
             // The crate passes text that is UTF-8, options of this size, and positions that it checked.
             None => unreachable!(
                 "the library returns code {}: is it of the version of this crate?",
                 outcome.code
             ),
         }
+    }
+}
+
+impl Error {
+    /// The byte of the pattern, from 0 to its length, where it cannot be read, or where the piece begins that is refused.
+    /// `None` if no one piece is refused, or of another error.
+    ///
+    /// ```
+    /// let error = fancy::Regex::new(r"(a)\k<x>").unwrap_err();
+    /// assert_eq!(error.offset(), Some(3));
+    /// assert_eq!(error.to_string(), "at byte 3: there is no group named 'x'");
+    /// ```
+    pub fn offset(&self) -> Option<usize> {
+        match self {
+            Error::ParseError(at, _) => Some(*at),
+            Error::CompileError(refusal) => refusal.offset(),
+            _ => None,
+        }
+    }
+}
+
+impl Refusal {
+    fn new(kind: CompileError, at: Option<usize>, message: String) -> Refusal {
+        Refusal(Box::new(Refused { kind, at, message }))
+    }
+
+    /// The byte of the pattern, from 0, where the piece begins that is refused; `None` if no one piece is.
+    pub fn offset(&self) -> Option<usize> {
+        self.0.at
+    }
+}
+
+impl Deref for Refusal {
+    type Target = CompileError;
+
+    fn deref(&self) -> &CompileError {
+        &self.0.kind
+    }
+}
+
+impl PartialEq for Refusal {
+    fn eq(&self, other: &Refusal) -> bool {
+        **self == **other
+    }
+}
+
+impl Eq for Refusal {}
+
+/// A message of the library without its place.
+fn without_place(message: String, at: Option<usize>) -> String {
+    let place = at.map(|at| format!("at byte {at}: "));
+    match place.and_then(|place| message.strip_prefix(&place)) {
+        Some(rest) => rest.to_string(),
+        None => message,
     }
 }
 
@@ -195,10 +265,10 @@ impl ParseError {
 }
 
 impl CompileError {
-    fn of(outcome: &sys::FancyOutcome, explain: impl FnOnce() -> String) -> Option<CompileError> {
+    fn of(outcome: &sys::FancyOutcome, message: &str) -> Option<CompileError> {
         Some(match outcome.code {
-            sys::FANCY_INNER_ERROR => CompileError::InnerError(explain()),
-            sys::FANCY_CLASS_TOO_BIG => CompileError::ClassTooBig(explain()),
+            sys::FANCY_INNER_ERROR => CompileError::InnerError(message.to_string()),
+            sys::FANCY_CLASS_TOO_BIG => CompileError::ClassTooBig(message.to_string()),
             sys::FANCY_INVALID_BACKREF => CompileError::InvalidBackref(outcome.group),
             sys::FANCY_NAMED_BACKREF_ONLY => CompileError::NamedBackrefOnly,
             sys::FANCY_FEATURE_NOT_YET_SUPPORTED => CompileError::FeatureNotYetSupported,
@@ -207,7 +277,7 @@ impl CompileError {
             }
             sys::FANCY_UNRESOLVED_AST_NODE => CompileError::UnresolvedAstNode,
             sys::FANCY_LEFT_RECURSIVE_SUBROUTINE_CALL => {
-                CompileError::LeftRecursiveSubroutineCall(explain())
+                CompileError::LeftRecursiveSubroutineCall(message.to_string())
             }
             sys::FANCY_NEVER_ENDING_RECURSION => CompileError::NeverEndingRecursion,
             sys::FANCY_VARIABLE_LOOK_BEHIND_REQUIRES_FEATURE => {
@@ -235,8 +305,9 @@ impl RuntimeError {
 }
 
 impl From<CompileError> for Error {
-    fn from(refusal: CompileError) -> Error {
-        Error::CompileError(Box::new(refusal))
+    fn from(kind: CompileError) -> Error {
+        let message = kind.to_string();
+        Error::CompileError(Refusal::new(kind, None, message))
     }
 }
 
@@ -283,6 +354,15 @@ impl fmt::Display for CompileError {
             }
         };
         f.write_str(text)
+    }
+}
+
+impl fmt::Display for Refusal {
+    fn fmt(&self, f: &mut fmt::Formatter<'_>) -> fmt::Result {
+        if let Some(at) = self.0.at {
+            write!(f, "at byte {at}: ")?;
+        }
+        f.write_str(&self.0.message)
     }
 }
 

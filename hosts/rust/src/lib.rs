@@ -17,7 +17,8 @@
 //!
 //! # What differs from fancy-regex
 //!
-//! - [`Error`] has the variant `Memory`. The kinds of errors carry no text, but for those that say so.
+//! - [`Error`] has the variant `Memory`, and [`Error::offset`]. `Error::CompileError` holds a [`Refusal`], by `*` its
+//!   [`CompileError`]. The kinds of errors carry no text, but for those that say so.
 //! - `ParseError::UnopenedCloseParen`, in `CompileError` `NestLimitExceeded` and `AnalysisLimitExceeded`, and in
 //!   `RuntimeError` `StepLimitExceeded`, `VisitLimitExceeded` and `MemoryLimitExceeded` are new.
 //! - [`Options`] and [`Regex::of_tree`] are new, for trees and for the options of `fancy.h`.
@@ -39,7 +40,9 @@ mod scanner;
 mod splits;
 
 pub use crate::captures::{Captures, Match, SubCaptureMatches};
-pub use crate::error::{CompileError, Error, ParseError, ParseErrorPosition, Result, RuntimeError};
+pub use crate::error::{
+    CompileError, Error, ParseError, ParseErrorPosition, Refusal, Result, RuntimeError,
+};
 pub use crate::expand::Expander;
 pub use crate::matches::{CaptureMatches, Matches};
 pub use crate::options::{Options, RegexBuilder};

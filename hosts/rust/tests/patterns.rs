@@ -283,7 +283,7 @@ fn errors() {
         CompileError::NeverEndingRecursion.into()
     );
     match error("x[b-a]") {
-        Error::CompileError(refusal) => match *refusal {
+        Error::CompileError(refusal) => match &*refusal {
             CompileError::InnerError(message) => assert!(message.contains("[b-a]"), "{message}"),
             other => panic!("{other:?}"),
         },
@@ -294,6 +294,23 @@ fn errors() {
         "{}",
         error("(a")
     );
+    for (pattern, at, message) in [
+        (r"(?<y>a)\k<x>", 7, "there is no group named 'x'"),
+        (r"é\g<x>", 2, "there is no group named 'x'"),
+        (r"(a)b\2", 4, "there is no group 2"),
+        (
+            "(?<=ab|c)(?<!xa+)b",
+            13,
+            "the body of a look-behind has no fixed length",
+        ),
+    ] {
+        assert_eq!(error(pattern).offset(), Some(at), "{pattern}");
+        assert_eq!(
+            error(pattern).to_string(),
+            format!("at byte {at}: {message}")
+        );
+    }
+    assert_eq!(error("(a").offset(), Some(2));
     assert_eq!("(a".parse::<Regex>().unwrap_err(), error("(a"));
     assert_eq!(Regex::try_from("(a").unwrap_err(), error("(a"));
 }

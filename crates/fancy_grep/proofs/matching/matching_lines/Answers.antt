@@ -1,6 +1,6 @@
-use Rattle.std.proofs.Common.{sym, ap, subst, ◌∙◌}
+use Rattle.std.proofs.Common.{sym, ap, subst, ◌∙◌, eqb-true}
 use Rattle.fancy_grep.specs.Lines.{lines_left}
-use Rattle.fancy_grep.proofs.MatchingLaws.{Searched, searched_none, searched_more, searched_stops, stopped_rises, all_rises}
+use Rattle.fancy_grep.proofs.MatchingLaws.{Searched, left_from, searched_none, searched_more, searched_stops, stopped_rises, all_rises}
 use Rattle.fancy_grep.proofs.matching.matching_lines.Goals as goal
 
 pub loop-line-init : goal.loop-line-init
@@ -30,6 +30,27 @@ loop-line-preserved c =
       grows = c.in_default.ensures.grows;
       same = c.in_default.ensures.same;
     })
+
+-- where nothing is left of the budget
+pub returns-then-is_used_up-clause-promise : goal.returns-then-is_used_up-clause-promise
+returns-then-is_used_up-clause-promise c =
+    let regex = c.args.regex.now in
+    let text = c.args.text.now in
+    let lines = c.loop-line.lines.items in
+    let line = c.in-Some.line in
+    let rest = lines_left c.next.new.self in
+    λ i o is required. (
+      eqb-true _ 0 (sym c.is_used_up.ensures ∙ c.if-is_used_up.true),
+      left_from regex c.args.required c.args.inverted text lines c.loop-line.regex
+          c.loop-line.occurrences line rest
+          (subst (Searched regex c.args.required c.args.inverted text lines c.loop-line.regex c.loop-line.occurrences) c.in-Some.ensures.steps
+          c.loop-line.invariant) i o is required,
+    )
+
+pub returns-then-is_used_up-clause-rising : goal.returns-then-is_used_up-clause-rising
+returns-then-is_used_up-clause-rising c =
+    all_rises c.args.regex.now c.args.required c.args.inverted c.args.text.now c.loop-line.lines.items c.loop-line.regex c.loop-line.occurrences
+    (lines_left c.loop-line.line-iterator) c.loop-line.invariant
 
 pub returns-in-Err-clause-promise : goal.returns-in-Err-clause-promise
 returns-in-Err-clause-promise c =

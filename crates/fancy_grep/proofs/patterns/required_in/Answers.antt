@@ -14,9 +14,9 @@ pub returns-in-Ok : goal.returns-in-Ok
 returns-in-Ok c =
     let o = options_for c.args.options in
     IfOk-weaker c.required_by.result
-    (λ found. IfSome found (λ r. IsRequiredOf (required_of r) true (tree_of c.in-Ok.tree.expr)))
+    (λ found. IfSome found (λ r. IsRequiredOf (required_of r) true true (tree_of c.in-Ok.tree.expr)))
     (λ found. (tree : ExprTree) → IsTreeOf c.args.pattern.now o tree → IsRequiredIn tree found)
-    (λ found h tree is. IfSome_then found h (λ r. subst (IsRequiredOf (required_of r) true)
+    (λ found h tree is. IfSome_then found h (λ r. subst (IsRequiredOf (required_of r) true true)
     (c.in-Ok.ensures.reads (tree_of tree.expr)
     (subst (λ p. Spells p (chars c.args.pattern.now) (tree_of tree.expr)) (sym c.parsing.ensures) ((is.spelled).spells)))))
     c.required_by.ensures

@@ -3,9 +3,9 @@ use Rattle.std.specs.Prelude.{chars}
 use Rattle.fancy_pattern.specs.Spelling.{IsError}
 use Rattle.fancy_search.specs.Requests as asked
 use Rattle.fancy_host.specs.Hosted.{parsing}
-use Rattle.fancy_host.specs.Messages.{Explains, explanation, has_program, message, refused, spells_no_text, unanalysed, unspelled}
+use Rattle.fancy_host.specs.Messages.{Explains, IsExplanation, has_program, message, refused, spells_no_text, unanalysed, unspelled}
 use Rattle.fancy_host.proofs.Answered.{compiled_by, read_so, refused_by, within_by}
-use Rattle.fancy_host.proofs.Said.{said_by}
+use Rattle.fancy_host.proofs.Said.{said_by, told_by}
 use Rattle.fancy_host.proofs.messages.explanation_of.Goals as goal
 
 pub returns-in-Err : goal.returns-in-Err
@@ -57,6 +57,7 @@ returns c =
     let read = read_so bytes o tree c.in-Ok.text.now c.parsing.result c.in-Ok.ensures.0 c.parsing.ensures c.in-Ok-parse_tree.ensures.answer in
     let as_analysed = c.analysis.ensures ∙ ap asked.analysis c.request-request.ensures in
     let as_compiled = c.compilation.ensures ∙ ap asked.compilation c.request-request.ensures in
-    said_by c.explained.result (λ text. string_bytes text) (explanation e) (Explains bytes o) c.explained.ensures
-    (refused c.in-Ok.ensures.1 c.in-Ok.ensures.2 tree e read c.in_default.ensures
-    (refused_by tree o c.analysis.result c.compilation.result as_analysed as_compiled e c.in-Err-new.ensures.made))
+    told_by c.explained.result (λ text. string_bytes text) (IsExplanation c.in-Ok.text.now e) (Explains bytes o) c.explained.ensures
+    (λ text is. refused c.in-Ok.ensures.1 c.in-Ok.ensures.2 tree e read c.in_default.ensures
+    (refused_by tree o c.analysis.result c.compilation.result as_analysed as_compiled e c.in-Err-new.ensures.made)
+    (subst (λ t. IsExplanation t e text) c.in-Ok.ensures.0 is))

@@ -1,13 +1,13 @@
 use Rattle.std.proofs.Common.{sym, subst, arith}
 use Rattle.std.proofs.lemmas.Result.{err_from_is_err_and}
-use Rattle.std.specs.Prelude.{chars}
+use Rattle.std.specs.Prelude.{Some, chars}
 use Rattle.fancy_steps.specs.Tasks.{options_of as run_options_of}
 use Rattle.fancy_pattern.specs.Spelling.{IsError}
 use Rattle.fancy_steps.specs.declared.search_limits.SearchLimits.{SearchLimits}
 use Rattle.fancy_search.specs.Searches.{input_of}
 use Rattle.fancy_matches.specs.Listing.{options_for}
 use Rattle.fancy_scanner.specs.Scanning.{IsTreeOf as IsScanTreeOf, rule_of}
-use Rattle.fancy_host.specs.Hosted.{FailsToCompile, pattern, refused, unanalysed, unspelled}
+use Rattle.fancy_host.specs.Hosted.{FailsToCompile, IsFailureFor, pattern, refused, unanalysed, unspelled}
 use Rattle.fancy_host.specs.Scanned.{fails, in_no_text}
 use Rattle.fancy_host.proofs.Answered.{read_so, refused_by}
 use Rattle.fancy_host.proofs.PatternsHeld.{rule_so}
@@ -74,8 +74,8 @@ returns c =
     let tree = c.in-Ok.tree in
     let s = c.search_options-search in
     fails c.in_ok-text.ensures.1 c.in_ok-text.ensures.2
-    (subst (FailsToCompile o (pattern bytes)) (sym c.of_error.ensures)
     (refused tree c.in-Err-new.error
     (read_so bytes o tree c.in_ok-text.text.now c.parsing.result c.in_ok-text.ensures.0 c.parsing.ensures c.in-Ok.ensures.answer)
     c.in_ok-check_analysis.ensures
-    (refused_by tree o s.result.analysis s.result.compilation s.ensures.analysis s.ensures.compilation c.in-Err-new.error c.in-Err-new.ensures)))
+    (refused_by tree o s.result.analysis s.result.compilation s.ensures.analysis s.ensures.compilation c.in-Err-new.error c.in-Err-new.ensures)
+    (subst (λ t. IsFailureFor (Some t) c.in-Err-new.error c.failure_of.result) c.in_ok-text.ensures.0 c.failure_of.ensures))

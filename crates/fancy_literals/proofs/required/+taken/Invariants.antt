@@ -4,4 +4,4 @@ use Rattle.fancy_literals.specs.Takes.{AreRead}
 use Rattle.fancy_literals.proofs.required.+taken.Given as goal
 
 abbrev pub invariant-taken_by_parts-loop-part : goal.invariant-taken_by_parts-loop-part
-invariant-taken_by_parts-loop-part l = AreRead l.literals (map tree_of (take l.part-index l.parts))
+invariant-taken_by_parts-loop-part l = AreRead l.behind l.literals (map tree_of (take l.part-index l.parts))

@@ -3,8 +3,8 @@ use Rattle.fancy_search.specs.Searches.{input_of}
 use Rattle.fancy_search.proofs.Searched.{made_within, may_run, promised_within, refusal_made_within, refusal_promises}
 use Rattle.fancy_search.proofs.search.search.Goals as goal
 
-pub search-requires-clause-fits : goal.search-requires-clause-fits
-search-requires-clause-fits c =
+pub run-requires-clause-fits : goal.run-requires-clause-fits
+run-requires-clause-fits c =
     may_run c.args.options.now c.args.tree.now c.in_ok-compiled.compiled c.args.text.now c.requires.fits c.in_ok-compiled.ensures.made
 
 pub returns-in_err-compiled-clause-promise : goal.returns-in_err-compiled-clause-promise
@@ -25,9 +25,9 @@ pub returns-clause-promise : goal.returns-clause-promise
 returns-clause-promise c =
     let o = c.args.options.now in
     let i = input_of c.args.tree.now o.analysis o.compilation in
-    promised_within i o.compilation.max_nesting c.args.text.now o.run c.search.result (c.search.ensures.promise i c.in_ok-compiled.ensures.made)
+    promised_within i o.compilation.max_nesting c.args.text.now o.run c.run.result (c.run.ensures.promise i c.in_ok-compiled.ensures.made)
 
 pub returns-clause-within : goal.returns-clause-within
 returns-clause-within c =
     let o = c.args.options.now in
-    made_within (input_of c.args.tree.now o.analysis o.compilation) o.compilation.max_nesting c.search.result c.in_ok-compiled.ensures.within
+    made_within (input_of c.args.tree.now o.analysis o.compilation) o.compilation.max_nesting c.run.result c.in_ok-compiled.ensures.within

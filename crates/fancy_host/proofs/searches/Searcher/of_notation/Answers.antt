@@ -1,4 +1,5 @@
-use Rattle.std.proofs.Common.{sym, subst}
+use Rattle.std.proofs.Common.{refl, sym, subst}
+use Rattle.std.specs.Prelude.{None}
 use Rattle.fancy_host.specs.Hosted.{FailsToCompile, notation, tree_in, unread}
 use Rattle.fancy_host.proofs.Answered.{made_so}
 use Rattle.fancy_host.proofs.searches.Searcher.of_notation.Goals as goal
@@ -10,4 +11,4 @@ returns-in-Err c =
 pub returns-in-Ok : goal.returns-in-Ok
 returns-in-Ok c =
     let result = c.of_tree.result in
-    made_so (notation c.args.text.now) c.args.options.now c.in-Ok.tree c.in-Ok.ensures.answer (λ b. tree_in b.value) result c.of_tree.ensures
+    made_so (notation c.args.text.now) c.args.options.now c.in-Ok.tree c.in-Ok.ensures.answer None refl (λ b. tree_in b.value) result c.of_tree.ensures

@@ -1,5 +1,5 @@
 use Rattle.std.proofs.Common.{refl, sym, subst}
-use Rattle.std.specs.Prelude.{chars}
+use Rattle.std.specs.Prelude.{Some, chars}
 use Rattle.fancy_pattern.specs.Spelling.{IsError}
 use Rattle.fancy_host.specs.Hosted.{FailsToCompile, pattern, tree_in, unspelled}
 use Rattle.fancy_host.proofs.Answered.{made_so, read_so}
@@ -16,4 +16,4 @@ returns-in-Ok c =
     let o = c.args.options.now in
     let result = c.of_tree.result in
     made_so (pattern bytes) o c.in-Ok.tree (read_so bytes o c.in-Ok.tree bytes c.parsing.result refl c.parsing.ensures c.in-Ok.ensures.answer)
-    (λ b. tree_in b.value) result c.of_tree.ensures
+    (Some bytes) refl (λ b. tree_in b.value) result c.of_tree.ensures

@@ -2,4 +2,4 @@ use Rattle.fancy_literals.proofs.TakenLaws.{none_read}
 use Rattle.fancy_literals.proofs.required.Literals.new.Goals as goal
 
 pub returns : goal.returns
-returns c = none_read c.new.result c.new.ensures.bytes
+returns c = λ behind. none_read behind c.new.result c.new.ensures.bytes

@@ -1,8 +1,5 @@
-use Rattle.std.proofs.Common.{map}
 use denote.Param.Send.{sendable}
 use Rattle.fancy_program.proofs.ThreadsLaws.{prog_sends, prog_syncs}
-use Rattle.fancy_program.specs.Insns.{insn_of}
-use Rattle.fancy_program.proofs.WalkLaws.{required_kept}
 use Rattle.fancy_program.proofs.insn.Prog.new.Goals as goal
 
 pub invariant_of-result : goal.invariant_of-result
@@ -10,9 +7,7 @@ invariant_of-result c = record {
   fits = c.requires;
   begins = rw c.deref-insns.ensures.value at c.of-prefilter.ensures;
   looks = rw c.deref-insns.ensures.value at c.look_prefilter_of-look_prefilter.ensures;
-  runs = rw c.deref-insns.ensures.value at c.of-run_prefilter.ensures;
   decides = rw c.deref-insns.ensures.value at c.of-strategy.ensures;
-  needs = required_kept (map insn_of c.args.body.items) c.required_in-required.result (rw c.deref-insns.ensures.value at c.required_in-required.ensures);
 }
 
 pub crosses_threads-requires-send-T : goal.crosses_threads-requires-send-T

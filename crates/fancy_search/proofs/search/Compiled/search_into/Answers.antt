@@ -1,30 +1,19 @@
-use Rattle.std.proofs.Common.{◌∙◌, ap, refl}
+use Rattle.std.proofs.Common.{◌∙◌, refl}
 use Rattle.fancy_program.proofs.FitsLaws.{run_place}
 use Rattle.fancy_steps.specs.Tasks.{options_of as run_options_of, task_of}
-use Rattle.fancy_vm.specs.Scratches as runs
 use Rattle.fancy_search.specs.Searches.{program}
-use Rattle.fancy_search.proofs.Pairs.{told_bounds, told_promises}
 use Rattle.fancy_search.proofs.Searched.{none_promises}
 use Rattle.fancy_search.proofs.search.Compiled.search_into.Goals as goal
 
-pub returns-then-is_too_short-clause-promise : goal.returns-then-is_too_short-clause-promise
-returns-then-is_too_short-clause-promise c i from =
+pub returns-then-has_none-clause-promise : goal.returns-then-has_none-clause-promise
+returns-then-has_none-clause-promise c i from =
     let text = c.args.text.now in
     let o = c.args.options.now in
     let at = run_place (task_of (program c.args.self.now) text o) c.requires.fits in
-    none_promises i c.args.self.now text o from c.requires.fits (c.is_too_short.ensures c.if-is_too_short.true i (run_options_of o) from at refl)
+    none_promises i c.args.self.now text o from c.requires.fits (c.has_none.ensures c.if-has_none.true i (run_options_of o) from at refl)
 
-pub returns-then-is_too_short-clause-limits : goal.returns-then-is_too_short-clause-limits
-returns-then-is_too_short-clause-limits c = c.limit.ensures.limits ∙ c.limits.ensures
+pub returns-then-has_none-clause-limits : goal.returns-then-has_none-clause-limits
+returns-then-has_none-clause-limits c = c.limit.ensures.limits ∙ c.limits.ensures
 
-pub returns-in-Ok-clause-promise : goal.returns-in-Ok-clause-promise
-returns-in-Ok-clause-promise c i from =
-    told_promises i c.args.self.now c.args.text.now c.args.options.now from c.requires.fits c.in-Ok.found c.search_by_engine.new.numbers
-    (c.in-Ok.ensures.answers i from)
-
-pub returns-in-Ok-clause-bounds : goal.returns-in-Ok-clause-bounds
-returns-in-Ok-clause-bounds c i from = told_bounds i c.args.text.now c.args.options.now c.in-Ok.found c.search_by_engine.new.numbers
-
-pub returns-in-Err-GaveUp-clause-limits : goal.returns-in-Err-GaveUp-clause-limits
-returns-in-Err-GaveUp-clause-limits c =
-    c.search_by_run-in-Err-GaveUp.ensures.limits ∙ (ap runs.limits_of c.give_up_engine.ensures.runs ∙ c.search_by_engine.ensures.limits)
+pub returns-in-None-clause-limits : goal.returns-in-None-clause-limits
+returns-in-None-clause-limits c = c.search_in_second_gear-in-None.ensures.limits ∙ c.search_in_first_gear.ensures.limits
