@@ -14,8 +14,5 @@ pub mod FirstSetLaws
 pub mod GroupSpansLaws
 pub mod OnePassLaws
 pub mod CountedLaws
-pub mod BranchTablesLaws
-pub mod FailingBranchesLaws
-pub mod LeadingRunsLaws
 pub mod ThreadsLaws
 pub mod JoinedLayout

@@ -80,10 +80,6 @@ module _ (searcher : Searcher) where
         ),
       )
 
-  -- what is sure is also not sure
-  pub unsure : (s t : plain.NfaConfig) → Walks searcher true s t → Walks searcher false s t
-  unsure s t w = joined true true false s t t (λ e. not_sure e) w (stays t)
-
   -- as sure as may be
   pub as_sure : (b : Bool) (s t : plain.NfaConfig) → Walks searcher true s t → Walks searcher b s t
   as_sure b s t w = joined true true b s t t (λ e. (refl, refl)) w (stays t)

@@ -31,7 +31,7 @@ use Rattle.fancy_backtrack.specs.FailedPairs.{has_pair}
 use Rattle.fancy_backtrack.proofs.KeptRunLaws.{onward_configs}
 use Rattle.fancy_plain.proofs.BackLaws.{back_memoized, one_more, steps_then}
 use Rattle.fancy_plain.proofs.FirstSetLaws.{at_index, passes_alike, past_ascii, past_end}
-use Rattle.fancy_backtrack.proofs.MemoLaws.{here_by, here_past, more_states, one_visit, same_tries}
+use Rattle.fancy_backtrack.proofs.MemoLaws.{here_by, more_states, same_tries}
 use Rattle.fancy_plain.proofs.SearchLaws.{steps_by, next_there}
 
 -- ---- the heads of loops
@@ -445,30 +445,6 @@ refused_by_test searcher test place b here small true excludes e = absurd (true�
 refused_by_test searcher test place b here small false excludes e =
     past_ascii (searcher.text).now (passes (searcher.text).now searcher.unicode (test_of test)) place b here small false
     (sym (passes_alike (searcher.text).now searcher.unicode (test_of test) b) ∙ sym e)
-
--- ---- tests one by one
-
--- past a test that passes
-pub test_passed : (searcher : Searcher) (m counted : Memo) (on : NfaConfig) (test : CharTest) (t : plain.NfaConfig) (g : Search) →
-    slice_get (searcher.states).now on.at ≡ Some (nfa_state.Character test) → Passes searcher test on.place →
-    counted ≡ record m { visits = saturated (m.visits + 1) } → IsSearch (continuation_of searcher) m g → IsHere m on t →
-    GoesOn searcher (TakesUp t g) counted (record on { at = on.at + 1; place = on.place + 1 })
-test_passed searcher m counted on test t g there pass more h here =
-    let past = past_char (searcher.text).now (passes (searcher.text).now searcher.unicode (test_of test)) in (
-      1,
-      (
-        record g { visits = g.visits + 1 },
-        (
-          record (plain.forward t) { place = on.place + 1 },
-          (
-            next_there searcher (nfa_state.Character test) on t here.at there g
-                ∙ ap (λ o. plain.next_by (plain.goes_past t o) (Some (states.Character (test_of test))) t g) (ap past (sym here.place) ∙ pass),
-            one_visit (continuation_of searcher) m g h counted more,
-            here_past counted on t (on.place + 1) (here_by m counted on t (ap (λ (x : Memo). x.trail) more) here),
-          ),
-        ),
-      ),
-    )
 
 -- ---- out of a loop over one character
 

@@ -12,8 +12,4 @@ pub mod GroupSpans
 pub mod OnePass
 pub mod AsciiRuns
 pub mod CountedWays
-pub mod BranchTables
-pub mod FailingBranches
 pub mod LoopsInLoops
-pub mod LeadingLoops
-pub mod LeadingRuns

@@ -81,7 +81,7 @@ pub fn first_way_with(
         opened: 0,
     };
     memo.start();
-    let found = searcher.find(&nfa.branches, memo, start)?;
+    let found = searcher.find(memo, start)?;
     let visits = memo.visits();
     let way = match found {
         Some(config) => Some(Way {

@@ -2,17 +2,13 @@
 #![tactic(auto)]
 
 mod ascii_runs;
-mod branch_tables;
 mod counted_ways;
-mod failing_branches;
 mod first_sets;
 pub mod first_way;
 pub mod group_spans;
 mod layout;
-pub mod leading_runs;
 pub mod nfa;
 mod nfa_state;
 pub mod one_pass;
 mod runs;
 mod search;
-mod test_runs;

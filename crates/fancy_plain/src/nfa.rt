@@ -1,24 +1,19 @@
 //! The NFA of neighbouring easy nodes.
 
-ghost use Rattle.std.specs.Option.{ForSome};
 ghost use Rattle.std.specs.Prelude.{◌≡◌, ◌<◌, ◌+◌, ℕ, List, Some, false, true, IfErr, IfOk, IsTrue, length, map, slice_get};
 ghost use Rattle.fancy_info.specs.Infos.{info_tree};
 ghost use Rattle.fancy_expr.specs.Each.{Each};
 ghost use Rattle.fancy_meaning.specs.Options.{Analysis};
 ghost use Rattle.fancy_meaning.specs.Places.{is_place};
 ghost use Rattle.fancy_meaning.specs.Premises.{IsText};
-ghost use Rattle.fancy_plain.specs.BranchTables.{AreTables};
 ghost use Rattle.fancy_plain.specs.FirstSets.{may_begin, AreFirstSets};
-ghost use Rattle.fancy_plain.specs.LeadingLoops.{IsLeadingRun};
 ghost use Rattle.fancy_plain.specs.LoopsInLoops.{begins_loop, has_loop_in_loop, is_counter_loop};
 ghost use Rattle.fancy_plain.specs.Neighbours.{AreNeighbours, IsEasy};
 ghost use Rattle.fancy_plain.specs.Views.{state_of};
 ghost use Rattle.fancy_joining.specs.JoinedLoops.{joined};
 
-use crate::branch_tables::BranchTables;
 use crate::first_sets::{first_sets, may_begin};
 use crate::layout::{Layout, room_for};
-use crate::leading_runs::leading_run;
 use crate::nfa_state::NfaState;
 use crate::search::Searcher;
 use fancy_backtrack::memo::Memo;
@@ -41,13 +36,7 @@ pub struct Nfa {
     pub(crate) is_one_pass: bool,
     /// Where ways seem to need no choice and set groups, the first of these.
     pub(crate) one_pass_group: Option<usize>,
-    /// Of alternations with many branches, which one comes next.
-    pub(crate) branches: BranchTables,
-    /// The state of the test of the greedy loop over one character with which each way begins, if there is one.
-    pub(crate) leading_run: Option<usize>,
     ghost begin: { AreFirstSets unicode (map state_of states.items) first_sets.items },
-    ghost tables: { AreTables unicode states.items branches },
-    ghost leads: { ForSome leading_run (λ at. ∥ IsLeadingRun states.items at ∥₁) },
 }
 
 // Not derived: whoever owns one calls this drop, and would prove a derived one again (docs/GATE.md).
@@ -61,8 +50,6 @@ impl Drop for Nfa {
             first_sets: _,
             is_one_pass: _,
             one_pass_group: _,
-            branches: _,
-            leading_run: _,
         } = self;
     }
 }
@@ -120,8 +107,6 @@ impl Nfa {
         let loops = loops_of(&states);
         let pair_bits = PairBits::of(states.len(), loops);
         let first_sets = first_sets(alloc, &states, unicode)?;
-        let branches = BranchTables::of(alloc, &states, unicode)?;
-        let leading_run = leading_run(&states);
         let searcher = Searcher {
             states: &states,
             unicode,
@@ -137,8 +122,6 @@ impl Nfa {
             first_sets,
             is_one_pass: seems_one_pass && group.is_none(),
             one_pass_group: if seems_one_pass { group } else { None },
-            branches,
-            leading_run,
         })
     }
 

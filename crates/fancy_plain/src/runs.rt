@@ -1,10 +1,10 @@
 //! Loops over one character: many iterations at once, and ways out of them that fail at their first test.
 
-ghost use Rattle.std.specs.Prelude.{◌≡◌, ◌≤◌, ◌+◌, IsTrue, IfErr, IfOk, IfSome};
+ghost use Rattle.std.specs.Prelude.{◌≡◌, ◌≤◌, ◌<◌, ◌+◌, IsTrue, IfErr, IfOk, IfSome, length};
 ghost use Rattle.fancy_nfa.specs.NfaSearch as plain;
 ghost use Rattle.fancy_nfa.specs.NfaSearch.{Search, TakesUp};
 ghost use Rattle.fancy_plain.specs.Views.{IsReadBy};
-ghost use Rattle.fancy_plain.specs.Runs.{FailsAtOnce, GoesOn, IsBody, IsLostAt, IsRun, Excludes, RunsOver};
+ghost use Rattle.fancy_plain.specs.Runs.{FailsAtOnce, GoesOn, IsBody, IsLostAt, IsRun, Excludes, Passes, RunsOver};
 ghost use Rattle.fancy_backtrack.specs.Memos.{HaveFailed, IsHere, IsSearch};
 ghost use Rattle.fancy_plain.specs.Searches.{IsSearcher, continuation_of};
 
@@ -63,7 +63,7 @@ impl Searcher<'_> {
     }
 
     /// At the head of a loop over one character where none is that passes, out of the loop if that does not fail at
-    /// once, and past the tests behind it.
+    /// once.
     #[inline(always)]
     fn past_body(
         &self,
@@ -87,7 +87,7 @@ impl Searcher<'_> {
         }
         m.count_more(2);
         match self.take_other(m, config)? {
-            StepResult::Goes(out) => Ok(self.past_tests(m, out)),
+            StepResult::Goes(out) => Ok(out),
             _ => Ok(config),
         }
     }
@@ -167,7 +167,7 @@ impl Searcher<'_> {
     /// From this state on a test comes first, behind groups that end, and the character here is none that passes:
     /// there is no more, or it is of ASCII and fails.
     #[inline(always)]
-    pub(crate) fn fails_at(&self, at: usize, place: usize) -> bool
+    fn fails_at(&self, at: usize, place: usize) -> bool
         requires { IsSearcher self.now }
         ensures { IsTrue result → FailsAtOnce self.now at place }
     {
@@ -191,5 +191,20 @@ impl Searcher<'_> {
             None => true,
             Some(byte) => byte < 128 && !test.takes_ascii(self.unicode, byte),
         }
+    }
+
+    /// A character of ASCII is here that passes the test.
+    #[inline(always)]
+    pub(crate) fn passes(&self, test: &CharTest, place: usize) -> bool
+        requires { IsReadBy self.now.unicode test.now }
+        ensures passes { IsTrue result → Passes self.now test.now place }
+        ensures within { IsTrue result → place < length self.now.text.now }
+        ensures small { IsTrue result → place < usize.MAX }
+    {
+        let text = self.text.as_bytes();
+        if place >= text.len() || text[place] >= 128 {
+            return false;
+        }
+        test.takes_ascii(self.unicode, text[place])
     }
 }

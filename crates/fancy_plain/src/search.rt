@@ -7,12 +7,9 @@ ghost use Rattle.fancy_nfa.specs.NfaStates as states;
 ghost use Rattle.fancy_plain.specs.Views.{IsStateReadBy, IsReadBy, test_of};
 ghost use Rattle.fancy_plain.specs.declared.nfa_state.NfaState.TheVariants as nfa_state;
 ghost use Rattle.fancy_backtrack.specs.Memos.{IsHere, IsSearch, Simulates, fails_before};
-ghost use Rattle.fancy_plain.specs.BranchTables.{AreTables};
-ghost use Rattle.fancy_plain.specs.OnePass.{AreBranches};
 ghost use Rattle.fancy_plain.specs.Runs.{lost_visits};
 ghost use Rattle.fancy_plain.specs.Searches.{Advances, ComesTo, EndsAs, GoesBack, IsSearcher, continuation_of};
 
-use crate::branch_tables::BranchTables;
 use crate::nfa_state::{CharTest, NfaState};
 use fancy_backtrack::loops::Loop;
 use fancy_backtrack::memo::{Memo, StepResult};
@@ -41,21 +38,19 @@ impl Searcher<'_> {
     /// the memo's budget allows, and after 2^64 - 1 steps, more than any machine takes.
     pub(crate) fn find(
         &self,
-        branches: &BranchTables,
         m: &mut Memo,
         start: NfaConfig,
     ) -> Result<Option<NfaConfig>, AllocError>
-        requires searcher { IsSearcher self.now }
-        requires tables { AreTables self.now.unicode self.now.states.now branches.now }
+        requires { IsSearcher self.now }
         ensures ends { (s : plain.NfaConfig) (f : Search)
             → IsSearch (continuation_of self.now) m.old f → IsHere m.old start s
             → EndsAs self.now (TakesUp s f) result m.new }
         ensures within { OnOk result (m.new.visits ≤ m.new.budget.visits) }
         ensures budget { m.new.budget ≡ m.old.budget }
     {
-        let mut config = self.past_tests(m, start);
+        let mut config = start;
         'steps: for _ in 0..u64::MAX {
-            let step = self.advance(branches, m, config)?;
+            let step = self.advance(m, config)?;
             if m.is_past_visits() {
                 return Err(AllocError);
             }
@@ -70,20 +65,14 @@ impl Searcher<'_> {
 
     /// Takes up the state, and where it leads nowhere goes back to what is tried later.
     #[inline(always)]
-    fn advance(
-        &self,
-        branches: &BranchTables,
-        m: &mut Memo,
-        config: NfaConfig,
-    ) -> Result<StepResult, AllocError>
-        requires searcher { IsSearcher self.now }
-        requires tables { AreTables self.now.unicode self.now.states.now branches.now }
+    fn advance(&self, m: &mut Memo, config: NfaConfig) -> Result<StepResult, AllocError>
+        requires { IsSearcher self.now }
         ensures leads { (s : plain.NfaConfig) (f : Search)
             → IsSearch (continuation_of self.now) m.old f → IsHere m.old config s
             → Advances self.now (TakesUp s f) result m.new }
         ensures budget { m.new.budget ≡ m.old.budget }
     {
-        match self.take_up(branches, m, config)? {
+        match self.take_up(m, config)? {
             StepResult::Lost => self.take_back(m),
             step_result => Ok(step_result),
         }
@@ -91,14 +80,8 @@ impl Searcher<'_> {
 
     /// Takes up the state.
     #[inline(always)]
-    fn take_up(
-        &self,
-        branches: &BranchTables,
-        m: &mut Memo,
-        config: NfaConfig,
-    ) -> Result<StepResult, AllocError>
-        requires searcher { IsSearcher self.now }
-        requires tables { AreTables self.now.unicode self.now.states.now branches.now }
+    fn take_up(&self, m: &mut Memo, config: NfaConfig) -> Result<StepResult, AllocError>
+        requires { IsSearcher self.now }
         ensures leads { (s : plain.NfaConfig) (f : Search)
             → IsSearch (continuation_of self.now) m.old f → IsHere m.old config s
             → ComesTo self.now (TakesUp s f) result m.new }
@@ -109,7 +92,7 @@ impl Searcher<'_> {
                 m.count();
                 Ok(StepResult::Lost)
             }
-            Some(nfa_state) => self.take_up_state(nfa_state, branches, m, config),
+            Some(nfa_state) => self.take_up_state(nfa_state, m, config),
         }
     }
 
@@ -117,12 +100,10 @@ impl Searcher<'_> {
     fn take_up_state(
         &self,
         nfa_state: &NfaState,
-        branches: &BranchTables,
         m: &mut Memo,
         config: NfaConfig,
     ) -> Result<StepResult, AllocError>
         requires searcher { IsSearcher self.now }
-        requires tables { AreTables self.now.unicode self.now.states.now branches.now }
         requires at { slice_get self.now.states.now config.at ≡ Some nfa_state.now }
         requires read { IsStateReadBy self.now.unicode nfa_state.now }
         ensures leads { (s : plain.NfaConfig) (f : Search)
@@ -134,7 +115,7 @@ impl Searcher<'_> {
             NfaState::Character(test) => self.take(test, m, config),
             NfaState::LoopSplit(first, _) => self.take_up_loop_split(m, config, *first),
             NfaState::Jump(to) => Ok(StepResult::Goes(config.goes_to(*to))),
-            NfaState::BranchSplit(first, _) => self.take_branch(branches, m, config, *first),
+            NfaState::BranchSplit(first, _) => m.choose(config, *first),
             NfaState::Close(group) => m.close(config, *group),
             NfaState::Join => m.join(config),
             NfaState::CounterLoop { bounds, after } => self.take_up_counter_loop(
@@ -142,7 +123,7 @@ impl Searcher<'_> {
             ),
             NfaState::Split(first, _) => {
                 m.count();
-                self.take_branch(branches, m, config, *first)
+                m.choose(config, *first)
             }
             NfaState::Open => {
                 m.count();

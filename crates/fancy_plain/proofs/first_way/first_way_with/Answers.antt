@@ -5,19 +5,15 @@ use Rattle.fancy_plain.specs.Views.{state_of}
 use Rattle.fancy_meaning.specs.Premises.{IsText}
 use Rattle.fancy_meaning.specs.Numbers.{usize_max}
 use Rattle.fancy_plain.specs.declared.first_way.FirstWay.{FirstWay}
-use Rattle.fancy_plain.specs.BranchTables.{AreTables}
 use Rattle.fancy_plain.specs.declared.first_way.Way.{Way}
 use Rattle.fancy_plain.proofs.FirstWayLaws.{Ended, counted, end_found, end_refused, first_found, first_none, memo_found}
 use Rattle.fancy_plain.proofs.ReadStates.{states_read}
 use Rattle.fancy_plain.proofs.first_way.first_way_with.Goals as goal
 use Rattle.fancy_plain.proofs.first_way.first_way_with.Goals.{in-Some+in_ok-spans-in-Some, in-None}
 
-pub find-requires-clause-searcher : goal.find-requires-clause-searcher
-find-requires-clause-searcher c = λ i p at.
+pub find-requires : goal.find-requires
+find-requires c = λ i p at.
     states_read c.args.nfa.now c.requires.nodes i p (ap (λ l. slice_get l i) (sym c.deref.ensures.value) ∙ at)
-
-pub find-requires-clause-tables : goal.find-requires-clause-tables
-find-requires-clause-tables c = subst (λ l. AreTables c.args.nfa.now.unicode l c.args.nfa.now.branches) (sym c.deref.ensures.value) c.args.nfa.now.tables
 
 -- ---- the search was refused memory
 

@@ -1,4 +1,4 @@
-use Rattle.std.proofs.Common.{Ok, sym, ap, ◌∙◌, subst}
+use Rattle.std.proofs.Common.{Ok, refl, sym, ap, ◌∙◌, subst}
 use Rattle.std.proofs.lemmas.Result.{err_from_is_err_and}
 use Rattle.fancy_nfa.specs.FirstWays.{search_in}
 use Rattle.fancy_nfa.specs.NfaSearch.{TakesUp}
@@ -7,7 +7,7 @@ use Rattle.fancy_plain.proofs.BackLaws.{ends_err, ends_found, ends_lost, failed_
 use Rattle.fancy_plain.proofs.search.Searcher.find.Goals as goal
 
 pub steps-init : goal.steps-init
-steps-init c = (c.past_tests-config.ensures.on, c.past_tests-config.ensures.budget)
+steps-init c = (λ s f h here. (0, (f, (s, (refl, h, here)))), refl)
 
 pub returns-in_err-step-clause-ends : goal.returns-in_err-step-clause-ends
 returns-in_err-step-clause-ends c = λ s f h here.

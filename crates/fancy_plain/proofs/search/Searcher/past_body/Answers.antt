@@ -3,7 +3,7 @@ use Rattle.std.proofs.lemmas.Result.{err_from_is_err_and}
 use Rattle.fancy_nfa.specs.NfaSearch.{TakesUp}
 use Rattle.fancy_backtrack.specs.Memos.{Simulates}
 use Rattle.fancy_plain.specs.Searches.{continuation_of}
-use Rattle.fancy_plain.proofs.RunLaws.{body_left, goes_on_then, never_lost, out_of}
+use Rattle.fancy_plain.proofs.RunLaws.{body_left, never_lost, out_of}
 use Rattle.fancy_plain.proofs.search.Searcher.past_body.Goals as goal
 
 pub returns-in_err-out-clause-failed : goal.returns-in_err-out-clause-failed
@@ -21,8 +21,7 @@ returns-in-Goes-clause-ok c = λ s f h here.
     c.requires.refused (c.may_have_failed.ensures c.if-may_have_failed.false) c.count_more.ensures h here in
     let led = subst (λ l. Simulates (continuation_of searcher) s f.failed (out_of s left.other f) (Ok l) c.take_other.new.m) c.in-Goes.is
     (c.in_ok-out.ensures.leads s left.one left.other true (record f { visits = f.visits + 2 }) f.frames left.search left.stands left.step_result) in
-    goes_on_then searcher (TakesUp s f) left.steps led.0 led.1.0 c.past_tests.new.m c.past_tests.result (left.comes ∙ led.1.1.0)
-    (c.past_tests.ensures.on led.1.0 led.0 led.1.1.1 led.1.1.2)
+    (left.steps, (led.0, (led.1.0, (left.comes ∙ led.1.1.0, led.1.1.1, led.1.1.2))))
 
 pub returns-in_default-clause-ok : goal.returns-in_default-clause-ok
 returns-in_default-clause-ok c = λ s f h here.

@@ -1,9 +1,9 @@
 use Rattle.std.proofs.Common.{refl, sym, ap, ◌∙◌, subst, ◌≤◌, ◌+◌, ◌∷◌, Some, None, false, length}
 use Rattle.fancy_nfa.specs.NfaSearch as plain
-use Rattle.fancy_nfa.specs.NfaSearch.{Next, Search, TakesBack, TakesUp, pair_of, visited}
+use Rattle.fancy_nfa.specs.NfaSearch.{Next, Search, TakesBack, TakesUp, pair_of}
 use Rattle.fancy_backtrack.specs.Paths.{HasCounters}
 use Rattle.fancy_plain.specs.Views.{state_of}
-use Rattle.fancy_backtrack.specs.Memos.{IsHere, IsSearch}
+use Rattle.fancy_backtrack.specs.Memos.{IsHere}
 use Rattle.fancy_plain.specs.Searches.{continuation_of}
 use Rattle.std.proofs.lemmas.Bool.{cond-true, cond-false}
 use Rattle.fancy_meaning.specs.Assertions.{holds}
@@ -14,7 +14,6 @@ use Rattle.fancy_backtrack.specs.declared.trail.NfaConfig.{NfaConfig}
 use Rattle.fancy_backtrack.specs.declared.memo.Memo.{Memo}
 use Rattle.std.proofs.lemmas.Result.{err_from_is_err_and}
 use Rattle.fancy_plain.proofs.BackLaws.{comes_by}
-use Rattle.fancy_plain.proofs.FailingBranchesLaws.{counted_there}
 use Rattle.fancy_plain.proofs.SearchLaws.{at_step, at_state, steps_by, next_there}
 use Rattle.fancy_backtrack.proofs.MemoLaws.{failed_by, here_at, here_by, one_visit}
 use Rattle.fancy_plain.proofs.search.Searcher.take_up_state.Goals as goal
@@ -46,8 +45,10 @@ returns-in-BranchSplit-clause-leads c = λ s f h here.
     let searcher = c.args.self.now in
     let p = nfa_state.BranchSplit c.in-BranchSplit.first c.in-BranchSplit.field-1 in
     let there = c.requires.at ∙ ap Some c.in-BranchSplit.is in
-    c.take_branch.ensures.leads s f
-    (subst (λ o. IsSearch (continuation_of searcher) c.args.m.now (visited o f)) (sym (counted_there searcher p c.args.config.at there)) h) here
+    let other = plain.goes_to c.in-BranchSplit.field-1 s in
+    comes_by c.args.self.now s f c.choose.result c.choose.new.self (at_state searcher p c.args.config s f here.at there c.choose.result c.choose.new.self
+    (c.choose.ensures.leads (continuation_of searcher) s f (plain.Other other ∷ f.frames) h here
+    (false, (plain.goes_to c.in-BranchSplit.first s, (other, (steps_by searcher p c.args.config s here.at there, refl))))))
 
 -- src/search.rt:443:5
 pub returns-in-Close-clause-leads : goal.returns-in-Close-clause-leads
@@ -72,10 +73,13 @@ returns-in-Split-clause-leads c = λ s f h here.
     let searcher = c.args.self.now in
     let p = nfa_state.Split c.in-Split.first c.in-Split.field-1 in
     let there = c.requires.at ∙ ap Some c.in-Split.is in
-    c.take_branch-in-Split.ensures.leads s f
-    (subst (λ o. IsSearch (continuation_of searcher) c.count.new.self (visited o f)) (sym (counted_there searcher p c.args.config.at there))
-    (one_visit (continuation_of searcher) c.args.m.now f h c.count.new.self c.count.ensures))
+    let other = plain.goes_to c.in-Split.field-1 s in
+    comes_by c.args.self.now s f c.choose-in-Split.result c.choose-in-Split.new.self
+    (at_state searcher p c.args.config s f here.at there c.choose-in-Split.result c.choose-in-Split.new.self
+    (c.choose-in-Split.ensures.leads (continuation_of searcher) s (record f { visits = f.visits + 1 }) (plain.Other other ∷ f.frames)
+    (one_visit (continuation_of searcher) c.args.m.now f h c.count.new.self c.count.ensures)
     (here_by c.args.m.now c.count.new.self c.args.config s (ap (λ (m : Memo). m.trail) c.count.ensures) here)
+    (false, (plain.goes_to c.in-Split.first s, (other, (steps_by searcher p c.args.config s here.at there, refl))))))
 
 -- src/search.rt:443:5
 pub returns-in-Open-clause-leads : goal.returns-in-Open-clause-leads
