@@ -36,7 +36,7 @@ impl<'n> Needle<'n> {
         ensures { needle_of result ≡ required_of required.entry.now }
     {
         match required {
-            Required::Literal(literal) => Needle::Literal(literal.as_ref()),
+            Required::Literal(literal) => Needle::Literal(Finder::new(literal)),
             Required::OneOf(set) => Needle::OneOf(&set.bytes),
         }
     }

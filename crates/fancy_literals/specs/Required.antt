@@ -14,7 +14,7 @@ pub data Required : Type 0 where
   OneOf : (bytes : List Bool) → Required
 
 abbrev pub required_of : declared.Required → Required
-required_of (code.Literal literal) = Piece literal
+required_of (code.Literal literal) = Piece literal.items
 required_of (code.OneOf set) = OneOf set.bytes
 
 -- the text begins with a byte of the set

@@ -34,6 +34,11 @@ impl ByteSet {
         ByteSet { bytes, few }
     }
 
+    /// Whether it has at most three bytes, so that texts are searched for them by vectors.
+    pub fn is_few(&self) -> bool {
+        !matches!(self.few, Few::Many)
+    }
+
     /// Whether the text has none of its bytes. It takes time in the length of the text.
     pub fn is_missing(&self, text: &[u8]) -> bool
         ensures { IsTrue result → HasNone (is_in self.now.bytes) text.now }

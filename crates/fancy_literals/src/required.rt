@@ -9,7 +9,7 @@ ghost use Rattle.fancy_literals.specs.Takes.{IsTaken, Takes};
 use crate::byte_set::ByteSet;
 use crate::bytes::bytes_of;
 use fancy_expr::expr::{Expr, LookAround};
-use memchr::memmem::{Finder, FinderBuilder};
+use memchr::memmem;
 use std::alloc::{AllocError, Global};
 use std::mem;
 
@@ -17,7 +17,7 @@ use std::mem;
 #[derive(Drop)]
 pub enum Required {
     /// This literal, in UTF-8.
-    Literal(Finder<'static>),
+    Literal(Vec<u8>),
     /// One byte of a set.
     OneOf(ByteSet),
 }
@@ -34,7 +34,7 @@ impl Required {
         let bytes = text.as_bytes();
         let rest = &bytes[from.min(bytes.len())..];
         match self {
-            Required::Literal(literal) => literal.find(rest).is_none(),
+            Required::Literal(literal) => memmem::find(rest, literal).is_none(),
             Required::OneOf(set) => set.is_missing(rest),
         }
     }
@@ -56,8 +56,7 @@ pub fn required_by(
         IsRequiredOf (required_of r) behind unicode (tree_of expr.now))) }
 {
     if let Some(literal) = taken_by(alloc, expr, behind)? {
-        let finder = FinderBuilder::new().build_forward_owned(literal.into_bytes());
-        return Ok(Some(Required::Literal(finder)));
+        return Ok(Some(Required::Literal(literal.into_bytes())));
     }
     match bytes_of(alloc, expr, unicode, behind)? {
         Some(bytes) => Ok(Some(Required::OneOf(ByteSet::new(bytes)))),

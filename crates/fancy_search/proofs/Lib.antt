@@ -1,7 +1,6 @@
 pub mod Searched
 pub mod Bounded
 pub mod TooShort
-pub mod NeedLaws
 pub mod GearLaws
 pub mod Pairs
 pub mod ThreadsLaws

@@ -1,21 +1,17 @@
-//! Bytes of which each match of a tree takes one, so that a text without them is not searched.
+//! What each match of a tree takes, so that a text without it is not searched.
 
-ghost use Rattle.std.specs.Prelude.{◌≡◌, ℕ, List, IfOk, IfSome, IsTrue, slice_index_or, true, false};
+ghost use Rattle.std.specs.Prelude.{◌≡◌, IfOk, IfSome, IsTrue};
 ghost use Rattle.fancy_expr.specs.Views.{tree_of};
-ghost use Rattle.fancy_literals.specs.Required.{LacksFrom, OneOf, required_of};
+ghost use Rattle.fancy_literals.specs.Required.{LacksFrom, required_of};
 ghost use Rattle.fancy_search.specs.Needs.{IsNeededBy};
 
 use fancy_expr::expr::Expr;
-use fancy_literals::byte_set::ByteSet;
 use fancy_literals::required::{Required, required_by};
 use std::alloc::{AllocError, Global};
 
-/// More bytes than these are not looked for, since `memchr` looks for no more at once.
-const MOST: usize = 3;
-
-/// Bytes of which each match of a tree takes one.
+/// What each match of a tree takes.
 pub struct Needed {
-    pub(crate) set: ByteSet,
+    pub(crate) required: Required,
     /// It may stand before the byte at which a search begins.
     pub(crate) is_behind: bool,
 }
@@ -24,7 +20,7 @@ pub struct Needed {
 impl Drop for Needed {
     fn drop(self) {
         let Needed {
-            set: _,
+            required: _,
             is_behind: _,
         } = self;
     }
@@ -34,64 +30,29 @@ impl Needed {
     ghost use Rattle.fancy_literals.specs.Required.{taken_from};
     ghost use Rattle.fancy_meaning.specs.Options.{RunOptions};
 
-    /// Whether a search of the text from this byte on finds no match, since the text lacks them. What may stand before is looked
+    /// Whether a search of the text from this byte on finds no match, since the text lacks it. What may stand before is looked
     /// for if that is the first byte.
     pub(crate) fn is_missing(&self, text: &str, pos: usize) -> bool
         ensures { IsTrue result → (o : RunOptions) → o.pos ≡ pos
-            → LacksFrom (OneOf self.now.set.bytes) text.now (taken_from self.now.is_behind o) }
+            → LacksFrom (required_of self.now.required) text.now (taken_from self.now.is_behind o) }
     {
         if self.is_behind && pos > 0 {
             return false;
         }
-        lacks(&self.set, text, pos)
+        self.required.is_missing(text, pos)
     }
 }
 
-/// Whether none of the bytes stands in the text from this byte on.
-fn lacks(set: &ByteSet, text: &str, from: usize) -> bool
-    ensures { IsTrue result → LacksFrom (OneOf set.now.bytes) text.now from }
-{
-    let bytes = text.as_bytes();
-    let rest = &bytes[from.min(bytes.len())..];
-    set.is_missing(rest)
-}
-
-/// The set of this byte alone.
-fn one_byte(byte: u8) -> ByteSet
-    ensures { slice_index_or result.bytes byte false ≡ true }
-{
-    let mut bytes = [false; 256];
-    bytes[byte as usize] = true;
-    ByteSet::new(bytes)
-}
-
-/// There are at most three of them.
-fn are_few(bytes: &[bool; 256]) -> bool {
-    let mut count = 0usize;
-    for byte in 0..256usize {
-        if bytes[byte] {
-            count = count.saturating_add(1);
-        }
-    }
-    count <= MOST
-}
-
-/// Bytes without which a text lacks what is required, if they are few: of a literal its first byte.
-fn bytes_of(required: Required) -> Option<ByteSet>
-    ensures { IfSome result (λ set. (text : List ℕ) (from : ℕ)
-        → LacksFrom (OneOf set.bytes) text from → LacksFrom (required_of required) text from) }
-{
+/// Whether texts are searched for it by vectors.
+fn is_soon_found(required: &Required) -> bool {
     match required {
-        Required::OneOf(set) => { if are_few(&set.bytes) { Some(set) } else { None } }
-        Required::Literal(literal) => match literal.needle().first() {
-            None => None,
-            Some(first) => Some(one_byte(*first)),
-        },
+        Required::Literal(_) => true,
+        Required::OneOf(set) => set.is_few(),
     }
 }
 
-/// Bytes of which each match of the tree, compiled with this option `unicode`, takes one, if such are known and few: with
-/// `behind` also those that may stand before a search begins.
+/// What each match of the tree, compiled with this option `unicode`, takes, if it is known and soon found: with `behind` also
+/// what may stand before a search begins.
 fn needed_by_side(
     alloc: Global,
     expr: &Expr,
@@ -103,16 +64,16 @@ fn needed_by_side(
     let Some(required) = required_by(alloc, expr, unicode, behind)? else {
         return Ok(None);
     };
-    match bytes_of(required) {
-        None => Ok(None),
-        Some(set) => Ok(Some(Needed {
-            set,
-            is_behind: behind,
-        })),
+    if !is_soon_found(&required) {
+        return Ok(None);
     }
+    Ok(Some(Needed {
+        required,
+        is_behind: behind,
+    }))
 }
 
-/// Bytes of which each match of the tree takes one, if such are known: at best those that do not stand before a search begins.
+/// What each match of the tree takes, if it is known: at best what does not stand before a search begins.
 pub(crate) fn needed_by(
     alloc: Global,
     expr: &Expr,
