@@ -9,7 +9,7 @@ use Rattle.fancy_meaning.specs.Recursion.{IsTracked, Calls, IsOuter, IsReachable
 use Rattle.fancy_meaning.specs.Recursion as meaning
 use Rattle.fancy_analysis.specs.declared.links.Link.{Link}
 use Rattle.fancy_analysis.specs.Links.{link_from, link_of, around_of, links_of}
-use Rattle.fancy_analysis.proofs.Members.{contains_cases, contains_first, contains_later}
+use Rattle.fancy_analysis.proofs.SearchSteps.{contains_cases, contains_first, contains_later}
 use Rattle.fancy_analysis.specs.Reached.{IsLinked, IsLinkedAtOnce, IsReached, the_whole, further, LeadsOn, by_one, by_more, LeadsIntoCycle, IsLeastIntoCycle}
 
 -- ---- members of what is picked

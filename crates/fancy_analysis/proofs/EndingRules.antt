@@ -1,46 +1,192 @@
--- The flags that no round changes tell what can end.
-use Rattle.std.proofs.Common.{◌≡◌, ℕ, zero, suc, ◌+◌, ◌<◌, ◌≤◌, ◌⊎◌, inl, inr, ⊎_elim, max, Bool, true, false, ◌&&◌, ◌||◌, ◌==◌, nat_lt, List, [], ◌∷◌, length, map, replicate, filter_map, slice_index_or, slice_set, Option, Some, None, sym, ap, ◌∙◌, refl, subst, arith, lt-ltb}
+-- Whether a node ends, by how its parts do; and the flags that no round changes tell what can end.
+use Rattle.std.proofs.Common.{◌≡◌, ℕ, ◌+◌, ◌<◌, ◌≤◌, Bool, true, false, List, [], ◌∷◌, ◌++◌, length, take, get_or, ap, ◌∙◌, arith, ◌&&◌, ◌||◌, ◌==◌, map, sym, refl, zero, suc, ◌⊎◌, inl, inr, ⊎_elim, max, nat_lt, replicate, filter_map, slice_index_or, slice_set, Option, Some, None, subst, lt-ltb}
+use Rattle.std.proofs.lemmas.List.{take_more, take_all, length-map, map-append, get_or_past}
+use Rattle.fancy_analysis.specs.Endings.{set_count, ends_by, all_end_by, some_end_by, and_then, no_parts, node_ends, is_ended_group, is_own_end, group_ends, IsRootOf, flag_count, next_ends}
+use Rattle.std.proofs.Math.Bool.{and_assoc, and-true, or_assoc, or_comm, or-false}
+use Rattle.fancy_meaning.specs.Tree.{Tree, Trees, trees, none, more, parts, Concat, Alt, Group, LookAround, Repeat, AtomicGroup, DefineGroup, Conditional, SubroutineCall, AbsentRepeater, AbsentStopper, AbsentExpression, NoLook}
+use Rattle.fancy_analysis.specs.declared.endings.PartEnds.{PartEnds}
+use Rattle.fancy_info.specs.declared.info.Info.{Info}
+use Rattle.fancy_expr.specs.declared.expr.Absent.{Absent}
+use Rattle.fancy_expr.specs.declared.expr.Expr.{Expr}
+use Rattle.fancy_expr.specs.Exprs.{below, below_absent}
+use Rattle.fancy_info.specs.Infos.{nth, absent_over, node_over, info_tree, info_children, info_facts}
+use Rattle.fancy_meaning.specs.Sizes.{Known}
+use Rattle.fancy_analysis.specs.Made.{IsSized}
+use Rattle.fancy_info.proofs.Unfolded.{tree_out}
+use Rattle.fancy_expr.proofs.Walks.{taken}
+use Rattle.fancy_analysis.proofs.InfoNodes.{or_and, any_in_each, any-below, any-taken, sized_parts}
 use Rattle.std.specs.List.{list_any}
-use Rattle.std.proofs.lemmas.Bool.{cases_lt, eqb-true, cond-true, cond-false}
+use Rattle.std.proofs.lemmas.Bool.{and_from, and_parts, cases_lt, eqb-true, cond-true, cond-false, or_cases, or_left, or_right}
 use Rattle.std.proofs.lemmas.Bool.Decides.{eqb_tells}
 use Rattle.std.proofs.lemmas.Option.{none-some}
-use Rattle.fancy_meaning.specs.Tree.{Tree, Trees, none, more, parts, Concat, Alt, Group, LookAround, Repeat, AtomicGroup, DefineGroup, Conditional, SubroutineCall, AbsentRepeater, AbsentStopper, AbsentExpression}
-use Rattle.fancy_meaning.specs.Nodes.{nodes, as_group, groups, body_in, target}
+use Rattle.fancy_meaning.specs.Nodes.{nodes, as_group, groups, body_in, target, group_count}
 use Rattle.fancy_meaning.specs.Places.{range_from}
 use Rattle.fancy_meaning.specs.Recursion.{CanEnd, AllEnd, SomeEnds, EndsWithParts, ends_with_parts, one_ends, not_required, body_ends, false_branch_ends, true_branch_ends, target_ends, no_target, none_left, and_more, this_one, a_later}
-use Rattle.fancy_meaning.specs.Nodes.{group_count}
 use Rattle.fancy_meaning.specs.Numbering.{numbered}
-use Rattle.fancy_meaning.specs.Tree.{NoLook}
-use Rattle.fancy_info.specs.declared.info.Info.{Info}
-use Rattle.fancy_analysis.specs.Endings.{IsRootOf, flag_count, next_ends, ends_by, all_end_by, some_end_by, is_ended_group, group_ends, set_count}
-use Rattle.fancy_info.specs.Infos.{info_tree}
-use Rattle.fancy_analysis.specs.Endings as flag
 use Rattle.fancy_info.proofs.GroupNumbers.{numbers}
 use Rattle.fancy_expr.proofs.Listed.{false_true}
+use Rattle.fancy_meaning.specs.Tree as plain
+use Rattle.fancy_expr.specs.declared.expr.Absent.TheVariants as code_absent
+use Rattle.fancy_expr.specs.declared.expr.Expr.TheVariants as code
+use Rattle.fancy_analysis.specs.Endings as flag
 
--- ---- tests
+count-append : (xs : List Bool) (b : Bool) → set_count (xs ++ b ∷ []) ≡ set_count xs + set_count (b ∷ [])
+count-append [] b = omega arith
+count-append (true ∷ xs) b = let rest = count-append xs b in omega (arith, rest)
+count-append (false ∷ xs) b = count-append xs b
 
-pub or_left : (a b : Bool) → a ≡ true → (a || b) ≡ true
-or_left a b h = ap (λ x. x || b) h
+pub count-taken : (xs : List Bool) (i : ℕ) (b : Bool) → i < length xs → get_or xs i false ≡ b →
+    set_count (take (i + 1) xs) ≡ set_count (take i xs) + set_count (b ∷ [])
+count-taken xs i b lt is =
+    ap set_count (take_more xs i false lt)
+    ∙ count-append (take i xs) (get_or xs i false)
+    ∙ ap (λ x. set_count (take i xs) + set_count (x ∷ [])) is
 
-pub or_right : (a b : Bool) → b ≡ true → (a || b) ≡ true
-or_right true b h = refl
-or_right false b h = h
+pub count-all : (xs : List Bool) (n : ℕ) → length xs ≤ n → set_count (take n xs) ≡ set_count xs
+count-all xs n h = ap set_count (take_all n xs h)
 
-pub both : (a b : Bool) → a ≡ true → b ≡ true → (a && b) ≡ true
-both a b p q = ap (λ x. x && b) p ∙ q
+abbrev pub parts_from : PartEnds → List Bool → PartEnds
+parts_from p [] = p
+parts_from p (b ∷ bs) = parts_from (and_then p b) bs
 
-pub first_true : (a b : Bool) → (a && b) ≡ true → a ≡ true
-first_true true b h = refl
-first_true false b h = h
+parts-append : (p : PartEnds) (bs : List Bool) (b : Bool) → parts_from p (bs ++ b ∷ []) ≡ and_then (parts_from p bs) b
+parts-append p [] b = refl
+parts-append p (c ∷ bs) b = parts-append (and_then p c) bs b
 
-pub second_true : (a b : Bool) → (a && b) ≡ true → b ≡ true
-second_true true b h = h
-second_true false b h = absurd (false_true h)
+abbrev pub all_parts : PartEnds → Bool
+all_parts p = p.earlier && p.last
 
-pub one_true : (a b : Bool) → (a || b) ≡ true → (a ≡ true) ⊎ (b ≡ true)
-one_true true b h = inl refl
-one_true false b h = inr h
+module _ (flags : List Bool) where
+  abbrev ended : Info → Bool
+  ended i = ends_by flags (info_tree i)
+
+  -- how so many of the parts end
+  abbrev pub ends_of : List Info → PartEnds
+  ends_of is = parts_from no_parts (map ended is)
+
+  pub ends-taken : (is : List Info) (n : ℕ) (i : Info) → n < length is → i ≡ get_or is n i →
+      ends_of (take (n + 1) is) ≡ and_then (ends_of (take n is)) (ends_by flags (info_tree i))
+  ends-taken is n i h at =
+      ap ends_of (taken is n i h at)
+      ∙ ap (parts_from no_parts) (map-append ended (take n is) (i ∷ []))
+      ∙ parts-append no_parts (map ended (take n is)) (ended i)
+
+  all-from : (p : PartEnds) (ts : List Tree) → all_parts (parts_from p (map (ends_by flags) ts)) ≡ (all_parts p && all_end_by flags (trees ts))
+  all-from p [] = sym (and-true (all_parts p))
+  all-from p (t ∷ ts) = all-from (and_then p (ends_by flags t)) ts ∙ and_assoc (all_parts p) (ends_by flags t) (all_end_by flags (trees ts))
+
+  some-from : (p : PartEnds) (ts : List Tree) → (parts_from p (map (ends_by flags) ts)).some ≡ (p.some || some_end_by flags (trees ts))
+  some-from p [] = sym (or-false p.some)
+  some-from p (t ∷ ts) = some-from (and_then p (ends_by flags t)) ts ∙ or_assoc p.some (ends_by flags t) (some_end_by flags (trees ts))
+
+  abbrev of_trees : List Tree → PartEnds
+  of_trees ts = parts_from no_parts (map (ends_by flags) ts)
+
+  no_part_ends : (ts : List Tree) → length ts ≡ 0 → all_parts (of_trees ts) ≡ true
+  no_part_ends [] h = refl
+  no_part_ends (t ∷ ts) h = absurd (omega arith)
+
+  one_part_ends : (ts : List Tree) → length ts ≡ 1 → all_parts (of_trees ts) ≡ ends_by flags (nth (trees ts) 0)
+  one_part_ends [] h = absurd (omega arith)
+  one_part_ends (t ∷ []) h = refl
+  one_part_ends (t ∷ u ∷ ts) h = absurd (omega arith)
+
+  two_parts_end : (ts : List Tree) → length ts ≡ 2 → all_parts (of_trees ts) ≡ (ends_by flags (nth (trees ts) 0) && ends_by flags (nth (trees ts) 1))
+  two_parts_end [] h = absurd (omega arith)
+  two_parts_end (t ∷ []) h = absurd (omega arith)
+  two_parts_end (t ∷ u ∷ []) h = refl
+  two_parts_end (t ∷ u ∷ v ∷ ts) h = absurd (omega arith)
+
+  three_parts_end : (ts : List Tree) → length ts ≡ 3 →
+      ((of_trees ts).earlier || (of_trees ts).last)
+      ≡ ((ends_by flags (nth (trees ts) 0) && ends_by flags (nth (trees ts) 1)) || ends_by flags (nth (trees ts) 2))
+  three_parts_end [] h = absurd (omega arith)
+  three_parts_end (t ∷ []) h = absurd (omega arith)
+  three_parts_end (t ∷ u ∷ []) h = absurd (omega arith)
+  three_parts_end (t ∷ u ∷ v ∷ []) h = refl
+  three_parts_end (t ∷ u ∷ v ∷ x ∷ ts) h = absurd (omega arith)
+
+  absent_ends : (a : Absent) (ts : List Tree) → length ts ≡ length (below_absent a) → all_parts (of_trees ts) ≡ ends_by flags (absent_over a (trees ts))
+  absent_ends (code_absent.Repeater' b e) ts h = one_part_ends ts h
+  absent_ends (code_absent.Expression' b a c e) ts h = two_parts_end ts h
+  absent_ends (code_absent.Stopper' b e) ts h = one_part_ends ts h
+  absent_ends code_absent.Clear ts h = no_part_ends ts h
+
+  over_ends : (e : Expr) (n : ℕ) (w : plain.Within) (ts : List Tree) → length ts ≡ length (below e) →
+      node_ends flags e (of_trees ts) ≡ ends_by flags (node_over e n w (trees ts))
+  over_ends (code.Concat' shape row) n w ts h = all-from no_parts ts
+  over_ends (code.Alt' shape row) n w ts h = some-from no_parts ts
+  over_ends (code.Group' b e) n w ts h = one_part_ends ts h
+  over_ends (code.LookAround' b e look) n w ts h = one_part_ends ts h
+  over_ends (code.Repeat' b e lo hi greedy) n w ts h = ap (λ x. (lo == 0) || x) (one_part_ends ts h)
+  over_ends (code.AtomicGroup' b e) n w ts h = one_part_ends ts h
+  over_ends (code.Conditional' b c d t x f) n w ts h = three_parts_end ts h
+  over_ends (code.Absent a) n w ts h = absent_ends a ts h
+  over_ends (code.DefineGroup' b e) n w ts h = one_part_ends ts h
+  over_ends (code.SubroutineCall g) n w ts h = refl
+  over_ends e n w ts h = no_part_ends ts h
+
+  map-map : (is : List Info) → map ended is ≡ map (ends_by flags) (map info_tree is)
+  map-map [] = refl
+  map-map (i ∷ is) = ap (λ l. ended i ∷ l) (map-map is)
+
+  -- the node ends where its parts say so
+  pub ends-here : (known : Known) (i : Info) (n : ℕ) → IsSized known i → length (info_children i) ≤ n →
+      node_ends flags (info_facts i).expr (ends_of (take n (info_children i))) ≡ ends_by flags (info_tree i)
+  ends-here known i n found h =
+      let f = info_facts i in
+      let ts = map info_tree (info_children i) in
+      ap (λ l. node_ends flags f.expr (ends_of l)) (take_all n (info_children i) h)
+      ∙ ap (λ l. node_ends flags f.expr (parts_from no_parts l)) (map-map (info_children i))
+      ∙ over_ends f.expr f.start_group f.within ts (length-map (info_children i) info_tree ∙ sized_parts known i found)
+      ∙ ap (ends_by flags) (sym (tree_out i))
+
+  -- ---- the groups of a node
+
+  absent_own : (g : ℕ) (a : Absent) (ts : Trees) → is_ended_group flags g (absent_over a ts) ≡ false
+  absent_own g (code_absent.Repeater' b e) ts = refl
+  absent_own g (code_absent.Expression' b a c e) ts = refl
+  absent_own g (code_absent.Stopper' b e) ts = refl
+  absent_own g code_absent.Clear ts = refl
+
+  over_own : (g : ℕ) (e : Expr) (n : ℕ) (w : plain.Within) (ts : Trees) →
+      is_ended_group flags g (node_over e n w ts) ≡ is_own_end e n (ends_by flags (node_over e n w ts)) g
+  over_own g (code.Group' b e) n w ts = refl
+  over_own g (code.Absent a) n w ts = absent_own g a ts
+  over_own g e n w ts = refl
+
+  pub own_end : (g : ℕ) (i : Info) →
+      is_ended_group flags g (info_tree i) ≡ is_own_end (info_facts i).expr (info_facts i).start_group (ends_by flags (info_tree i)) g
+  own_end g i =
+      let f = info_facts i in
+      ap (is_ended_group flags g) (tree_out i)
+      ∙ over_own g f.expr f.start_group f.within (trees (map info_tree (info_children i)))
+      ∙ ap (λ t. is_own_end f.expr f.start_group (ends_by flags t) g) (sym (tree_out i))
+
+  -- one child more
+  pub flag_more : (g : ℕ) (is : List Info) (n : ℕ) (i : Info) (old now next lt : Bool) → n < length is → i ≡ get_or is n i →
+      now ≡ (old || (lt && any_in_each (is_ended_group flags g) (take n is))) → next ≡ (now || (lt && group_ends flags (info_tree i) g)) →
+      next ≡ (old || (lt && any_in_each (is_ended_group flags g) (take (n + 1) is)))
+  flag_more g is n i old now next lt h at before here =
+      here
+      ∙ ap (λ b. b || (lt && group_ends flags (info_tree i) g)) before
+      ∙ or_and old lt (any_in_each (is_ended_group flags g) (take n is)) (group_ends flags (info_tree i) g)
+      ∙ ap (λ b. old || (lt && b)) (sym (any-taken (is_ended_group flags g) is n i h at))
+
+  -- and the node itself
+  pub flag_all : (known : Known) (g : ℕ) (i : Info) (n : ℕ) (old now next lt ends : Bool) → IsSized known i → length (info_children i) ≤ n →
+      ends ≡ ends_by flags (info_tree i) → now ≡ (old || (lt && any_in_each (is_ended_group flags g) (take n (info_children i)))) →
+      next ≡ (now || (lt && is_own_end (info_facts i).expr (info_facts i).start_group ends g)) →
+      next ≡ (old || (lt && group_ends flags (info_tree i) g))
+  flag_all known g i n old now next lt ends found h is before here =
+      let test = is_ended_group flags g in
+      here
+      ∙ ap (λ b. b || (lt && is_own_end (info_facts i).expr (info_facts i).start_group ends g)) (before
+      ∙ ap (λ l. old || (lt && any_in_each test l)) (take_all n (info_children i) h))
+      ∙ ap (λ e. (old || (lt && any_in_each test (info_children i))) || (lt && is_own_end (info_facts i).expr (info_facts i).start_group e g)) is
+      ∙ ap (λ b. (old || (lt && any_in_each test (info_children i))) || (lt && b)) (sym (own_end g i))
+      ∙ or_and old lt (any_in_each test (info_children i)) (test (info_tree i))
+      ∙ ap (λ b. old || (lt && b)) (or_comm (any_in_each test (info_children i)) (test (info_tree i)) ∙ sym (any-below test i (sized_parts known i found)))
 
 some_same : {X : Type 0} (x y : X) → Some x ≡ Some y → x ≡ y
 some_same x y h = cc
@@ -77,9 +223,9 @@ module _ (f : Tree → Bool) (g : ℕ) where
         k.1,
         cond-true (k.0 == g) (Some k.1) (body_in hs g) same.0,
         ⊎_elim
-            (λ here. second_true (k.0 == g) (f k.1) here)
+            (λ here. (and_parts (k.0 == g) (f k.1) here).1)
             (λ later. let rest : suc m ≤ g = number_of hs (suc m) tail later in let is : k.0 ≡ g = same.1 in absurd (omega (arith, head, is, rest)))
-            (one_true (passes k) (list_any passes hs) h),
+            (or_cases (passes k) (list_any passes hs) h),
       ))
       (λ other. let rest = body_of hs (suc m) tail (sym (here_false k hs other.0) ∙ h) in
       (rest.0, cond-false (k.0 == g) (Some k.1) (body_in hs g) other.0 ∙ rest.1, rest.2))
@@ -90,7 +236,7 @@ module _ (f : Tree → Bool) (g : ℕ) where
   any_of_body (k ∷ hs) e is h =
       ⊎_elim
       (λ same. or_left (passes k) (list_any passes hs)
-      (both (k.0 == g) (f k.1) same.0 (ap f (some_same k.1 e (sym (cond-true (k.0 == g) (Some k.1) (body_in hs g) same.0) ∙ is)) ∙ h)))
+      (and_from (k.0 == g) (f k.1) same.0 (ap f (some_same k.1 e (sym (cond-true (k.0 == g) (Some k.1) (body_in hs g) same.0) ∙ is)) ∙ h)))
       (λ other. here_false k hs other.0 ∙ any_of_body hs e (sym (cond-false (k.0 == g) (Some k.1) (body_in hs g) other.0) ∙ is) h)
       (eqb_tells k.0 g)
 
@@ -127,11 +273,6 @@ within_or_past [] g h = inr (omega arith)
 within_or_past (b ∷ flags) zero h = inl h
 within_or_past (b ∷ flags) (suc g) h = ⊎_elim (λ p. inl p) (λ q. inr (omega (arith, q))) (within_or_past flags g h)
 
-true_past : (flags : List Bool) (g : ℕ) → length flags ≤ g → slice_index_or flags g true ≡ true
-true_past [] g h = refl
-true_past (b ∷ flags) zero h = absurd (omega (arith, h))
-true_past (b ∷ flags) (suc g) h = true_past flags g (omega (arith, h))
-
 true_within : (flags : List Bool) (g : ℕ) → slice_index_or flags g false ≡ true → slice_index_or flags g true ≡ true
 true_within [] g h = refl
 true_within (b ∷ flags) zero h = h
@@ -141,16 +282,13 @@ true_within (b ∷ flags) (suc g) h = true_within flags g h
 abbrev pub Grows : List Bool → List Bool → Type 0
 Grows xs ys = (g : ℕ) → slice_index_or xs g false ≡ true → slice_index_or ys g false ≡ true
 
-more_set : (xs ys : List Bool) → length ys ≡ length xs → Grows xs ys → set_count xs ≤ set_count ys
-more_set [] ys h grows = omega arith
-more_set (x ∷ xs) [] h grows = absurd (omega (arith, h))
-more_set (true ∷ xs) (true ∷ ys) h grows = let rest = more_set xs ys (omega (arith, h)) (λ g. grows (suc g)) in omega (arith, rest)
-more_set (true ∷ xs) (false ∷ ys) h grows = absurd (false_true (grows 0 refl))
-more_set (false ∷ xs) (true ∷ ys) h grows = let rest = more_set xs ys (omega (arith, h)) (λ g. grows (suc g)) in omega (arith, rest)
-more_set (false ∷ xs) (false ∷ ys) h grows = more_set xs ys (omega (arith, h)) (λ g. grows (suc g))
-
 pub count_grows : (xs ys : List Bool) → length ys ≡ length xs → Grows xs ys → set_count xs ≤ set_count ys
-count_grows xs ys h grows = more_set xs ys h grows
+count_grows [] ys h grows = omega arith
+count_grows (x ∷ xs) [] h grows = absurd (omega (arith, h))
+count_grows (true ∷ xs) (true ∷ ys) h grows = let rest = count_grows xs ys (omega (arith, h)) (λ g. grows (suc g)) in omega (arith, rest)
+count_grows (true ∷ xs) (false ∷ ys) h grows = absurd (false_true (grows 0 refl))
+count_grows (false ∷ xs) (true ∷ ys) h grows = let rest = count_grows xs ys (omega (arith, h)) (λ g. grows (suc g)) in omega (arith, rest)
+count_grows (false ∷ xs) (false ∷ ys) h grows = count_grows xs ys (omega (arith, h)) (λ g. grows (suc g))
 
 pub same_flags : (xs ys : List Bool) → length ys ≡ length xs → Grows xs ys → set_count ys ≡ set_count xs → ys ≡ xs
 same_flags [] [] h grows same = refl
@@ -159,7 +297,7 @@ same_flags (x ∷ xs) [] h grows same = absurd (omega (arith, h))
 same_flags (true ∷ xs) (true ∷ ys) h grows same = ap (λ l. true ∷ l) (same_flags xs ys (omega (arith, h)) (λ g. grows (suc g)) (omega (arith, same)))
 same_flags (true ∷ xs) (false ∷ ys) h grows same = absurd (false_true (grows 0 refl))
 same_flags (false ∷ xs) (true ∷ ys) h grows same =
-    let rest = more_set xs ys (omega (arith, h)) (λ g. grows (suc g)) in absurd (omega (arith, rest, same))
+    let rest = count_grows xs ys (omega (arith, h)) (λ g. grows (suc g)) in absurd (omega (arith, rest, same))
 same_flags (false ∷ xs) (false ∷ ys) h grows same = ap (λ l. false ∷ l) (same_flags xs ys (omega (arith, h)) (λ g. grows (suc g)) same)
 
 pub count_most : (xs : List Bool) → set_count xs ≤ length xs
@@ -171,14 +309,6 @@ pub all_set : (xs : List Bool) → 0 < length xs → length xs ≤ set_count xs 
 all_set [] some h = absurd (omega (arith, some))
 all_set (true ∷ xs) some h = refl
 all_set (false ∷ xs) some h = let rest = count_most xs in absurd (omega (arith, rest, h))
-
-pub first_flag : (xs : List Bool) (d : Bool) → 0 < length xs → slice_index_or xs 0 d ≡ slice_index_or xs 0 false
-first_flag [] d some = absurd (omega (arith, some))
-first_flag (x ∷ xs) d some = refl
-
-pub none_set : (n : ℕ) → set_count (replicate n false) ≡ 0
-none_set zero = refl
-none_set (suc n) = none_set n
 
 pub no_flag : (n g : ℕ) → slice_index_or (replicate n false) g false ≡ false
 no_flag zero g = refl
@@ -225,20 +355,20 @@ module _ (whole : Tree) (n : ℕ) (flags : List Bool) (has : HasFlags whole n fl
         ⊎_elim
         (λ none. subst (λ k. CanEnd whole (Repeat k hi greedy e)) (sym (eqb-true lo 0 none)) not_required)
         (λ ends. body_ends (body ends))
-        (one_true (lo == 0) (ends_by flags e) h)
+        (or_cases (lo == 0) (ends_by flags e) h)
 
     conditional_sound : (c t f : Tree) → (ends_by flags c ≡ true → CanEnd whole c) → (ends_by flags t ≡ true → CanEnd whole t) →
         (ends_by flags f ≡ true → CanEnd whole f) → ((ends_by flags c && ends_by flags t) || ends_by flags f) ≡ true →
         CanEnd whole (Conditional c t f)
     conditional_sound c t f at_c at_t at_f h =
         ⊎_elim
-        (λ p. true_branch_ends (at_c (first_true (ends_by flags c) (ends_by flags t) p)) (at_t (second_true (ends_by flags c) (ends_by flags t) p)))
+        (λ p. true_branch_ends (at_c (and_parts (ends_by flags c) (ends_by flags t) p).0) (at_t (and_parts (ends_by flags c) (ends_by flags t) p).1))
         (λ q. false_branch_ends (at_f q))
-        (one_true (ends_by flags c && ends_by flags t) (ends_by flags f) h)
+        (or_cases (ends_by flags c && ends_by flags t) (ends_by flags f) h)
 
     some_sound_of : (e : Tree) (es : Trees) → (ends_by flags e ≡ true → CanEnd whole e) → (some_end_by flags es ≡ true → SomeEnds whole es) →
         (ends_by flags e || some_end_by flags es) ≡ true → SomeEnds whole (more e es)
-    some_sound_of e es here later h = ⊎_elim (λ p. this_one (here p)) (λ q. a_later (later q)) (one_true (ends_by flags e) (some_end_by flags es) h)
+    some_sound_of e es here later h = ⊎_elim (λ p. this_one (here p)) (λ q. a_later (later q)) (or_cases (ends_by flags e) (some_end_by flags es) h)
 
     mutual
       pub ends_sound : (e : Tree) → ends_by flags e ≡ true → CanEnd whole e
@@ -254,14 +384,14 @@ module _ (whole : Tree) (n : ℕ) (flags : List Bool) (has : HasFlags whole n fl
       ends_sound (AbsentRepeater e) h = ends_with_parts tt (and_more (ends_sound e h) none_left)
       ends_sound (AbsentStopper e) h = ends_with_parts tt (and_more (ends_sound e h) none_left)
       ends_sound (AbsentExpression a e) h =
-          ends_with_parts tt (and_more (ends_sound a (first_true (ends_by flags a) (ends_by flags e) h))
-          (and_more (ends_sound e (second_true (ends_by flags a) (ends_by flags e) h)) none_left))
+          ends_with_parts tt (and_more (ends_sound a (and_parts (ends_by flags a) (ends_by flags e) h).0)
+          (and_more (ends_sound e (and_parts (ends_by flags a) (ends_by flags e) h).1) none_left))
       ends_sound e h = ends_with_parts tt none_left
 
       all_sound : (es : Trees) → all_end_by flags es ≡ true → AllEnd whole es
       all_sound none h = none_left
       all_sound (more e es) h =
-          and_more (ends_sound e (first_true (ends_by flags e) (all_end_by flags es) h)) (all_sound es (second_true (ends_by flags e) (all_end_by flags es) h))
+          and_more (ends_sound e (and_parts (ends_by flags e) (all_end_by flags es) h).0) (all_sound es (and_parts (ends_by flags e) (all_end_by flags es) h).1)
 
       some_sound : (es : Trees) → some_end_by flags es ≡ true → SomeEnds whole es
       some_sound none h = absurd (false_true h)
@@ -286,7 +416,7 @@ module _ (whole : Tree) (n : ℕ) (flags : List Bool) (has : HasFlags whole n fl
     call_complete g e is h =
         ⊎_elim
         (λ lt. true_within flags g (closed g lt (target_complete g e is h)))
-        (λ ge. true_past flags g ge)
+        (λ ge. get_or_past flags g true ge)
         (cases_lt g (length flags))
 
     no_target_within : (g : ℕ) → target whole g ≡ None → g < length flags → ⊥
@@ -297,10 +427,10 @@ module _ (whole : Tree) (n : ℕ) (flags : List Bool) (has : HasFlags whole n fl
         some_within (groups whole) n (suc g) has.numbers low (omega (arith, lt, has.count)) is
 
     none_complete : (g : ℕ) → target whole g ≡ None → slice_index_or flags g true ≡ true
-    none_complete g is = ⊎_elim (λ lt. absurd (no_target_within g is lt)) (λ ge. true_past flags g ge) (cases_lt g (length flags))
+    none_complete g is = ⊎_elim (λ lt. absurd (no_target_within g is lt)) (λ ge. get_or_past flags g true ge) (cases_lt g (length flags))
 
     alone : (e : Tree) → (ends_by flags e && true) ≡ true → ends_by flags e ≡ true
-    alone e h = first_true (ends_by flags e) true h
+    alone e h = (and_parts (ends_by flags e) true h).0
 
     parts_complete : (e : Tree) → EndsWithParts e → all_end_by flags (parts e) ≡ true → ends_by flags e ≡ true
     parts_complete (Concat es) t h = h
@@ -315,8 +445,8 @@ module _ (whole : Tree) (n : ℕ) (flags : List Bool) (has : HasFlags whole n fl
     parts_complete (AbsentRepeater e) t h = alone e h
     parts_complete (AbsentStopper e) t h = alone e h
     parts_complete (AbsentExpression a e) t h =
-        both (ends_by flags a) (ends_by flags e) (first_true (ends_by flags a) (ends_by flags e && true) h)
-        (alone e (second_true (ends_by flags a) (ends_by flags e && true) h))
+        and_from (ends_by flags a) (ends_by flags e) (and_parts (ends_by flags a) (ends_by flags e && true) h).0
+        (alone e (and_parts (ends_by flags a) (ends_by flags e && true) h).1)
     parts_complete e t h = refl
 
     mutual
@@ -327,13 +457,13 @@ module _ (whole : Tree) (n : ℕ) (flags : List Bool) (has : HasFlags whole n fl
       ends_complete (body_ends {lo = lo} {e = e} d) = or_right (lo == 0) (ends_by flags e) (ends_complete d)
       ends_complete (false_branch_ends {c = c} {t = t} {f = f} d) = or_right (ends_by flags c && ends_by flags t) (ends_by flags f) (ends_complete d)
       ends_complete (true_branch_ends {c = c} {t = t} {f = f} p q) =
-          or_left (ends_by flags c && ends_by flags t) (ends_by flags f) (both (ends_by flags c) (ends_by flags t) (ends_complete p) (ends_complete q))
+          or_left (ends_by flags c && ends_by flags t) (ends_by flags f) (and_from (ends_by flags c) (ends_by flags t) (ends_complete p) (ends_complete q))
       ends_complete (target_ends {g = g} {e = e} is d) = call_complete g e is (ends_complete d)
       ends_complete (no_target {g = g} is) = none_complete g is
 
       all_complete : {es : Trees} → AllEnd whole es → all_end_by flags es ≡ true
       all_complete none_left = refl
-      all_complete (and_more {e = e} {es = es} d ds) = both (ends_by flags e) (all_end_by flags es) (ends_complete d) (all_complete ds)
+      all_complete (and_more {e = e} {es = es} d ds) = and_from (ends_by flags e) (all_end_by flags es) (ends_complete d) (all_complete ds)
 
       some_complete : {es : Trees} → SomeEnds whole es → some_end_by flags es ≡ true
       some_complete (this_one {e = e} {es = es} d) = or_left (ends_by flags e) (some_end_by flags es) (ends_complete d)
@@ -398,8 +528,8 @@ module _ (whole : Tree) (n : ℕ) (flags next : List Bool) (has : HasFlags whole
   sound_next g set =
       ⊎_elim
       (λ old. sound g old)
-      (λ new. target_sound whole n flags has sound g (second_true (nat_lt g (length flags)) (flag.target_ends flags whole g) new))
-      (one_true (slice_index_or flags g false) (nat_lt g (length flags) && flag.target_ends flags whole g) (sym (is g) ∙ set))
+      (λ new. target_sound whole n flags has sound g (and_parts (nat_lt g (length flags)) (flag.target_ends flags whole g) new).1)
+      (or_cases (slice_index_or flags g false) (nat_lt g (length flags) && flag.target_ends flags whole g) (sym (is g) ∙ set))
 
   pub first_complete : next ≡ flags → CanEnd whole whole → slice_index_or flags 0 false ≡ true
   first_complete same ends =
@@ -408,5 +538,5 @@ module _ (whole : Tree) (n : ℕ) (flags next : List Bool) (has : HasFlags whole
       ap (λ l. slice_index_or l g false) (sym same)
       ∙ is g
       ∙ or_right (slice_index_or flags g false) (nat_lt g (length flags) && flag.target_ends flags whole g)
-      (both (nat_lt g (length flags)) (flag.target_ends flags whole g) (lt-ltb g (length flags) lt) h) in
+      (and_from (nat_lt g (length flags)) (flag.target_ends flags whole g) (lt-ltb g (length flags) lt) h) in
       closed 0 (omega (arith, has.count)) (ends_complete whole n flags has closed ends)

@@ -12,7 +12,7 @@ use Rattle.std.proofs.lemmas.Map.Keys.{sorted_tail}
 use Rattle.std.proofs.lemmas.Map.Views.{All-after_first}
 use Rattle.fancy_meaning.specs.AnalysisRefusals.{IsNamed, IsLeastName}
 use Rattle.fancy_analysis.specs.Names.{names_of}
-use Rattle.fancy_analysis.proofs.Members.{contains_cases, contains_first, contains_later}
+use Rattle.fancy_analysis.proofs.SearchSteps.{contains_cases, contains_first, contains_later}
 
 abbrev Named : Type 0
 Named = String Global × Vec ℕ Global
@@ -22,9 +22,6 @@ pub record IsLeft (g : ℕ) (all rest : List Named) : Type 0 where
   pub only : (name : List ℕ) → IsNamed (names_of all) g name → IsNamed (names_of rest) g name
   pub still : (name : List ℕ) → IsNamed (names_of rest) g name → IsNamed (names_of all) g name
   pub sorted : IsStrictlySortedBy string_cmp (keys_of rest)
-
-pub all_left : (g : ℕ) (all : List Named) → IsStrictlySortedBy string_cmp (keys_of all) → IsLeft g all all
-all_left g all sorted = record { only = λ name n. n; still = λ name n. n; sorted = sorted }
 
 first_or_later : (g : ℕ) (x : Named) (rest : List Named) (name : List ℕ) → IsNamed (names_of (x ∷ rest)) g name →
     ((string_bytes x.0 ≡ name) × Contains x.1.items g) ⊎ IsNamed (names_of rest) g name

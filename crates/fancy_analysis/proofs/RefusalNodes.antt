@@ -1,23 +1,25 @@
 -- A node is refused exactly where a case of a refusal holds, or it is a call.
-use Rattle.std.proofs.Common.{◌≡◌, ℕ, suc, ◌+◌, ◌-◌, ◌<◌, ◌≤◌, Bool, true, false, not, ◌&&◌, ◌||◌, ◌==◌, nat_lt, if◌then◌else◌, List, [], ◌∷◌, length, map, Contains, IsTrue, refl, sym, ap, ap₂, ◌∙◌, subst, arith}
+use Rattle.std.proofs.Common.{◌≡◌, ℕ, suc, ◌+◌, ◌-◌, ◌<◌, ◌≤◌, Bool, true, false, not, ◌&&◌, ◌||◌, ◌==◌, nat_lt, if◌then◌else◌, List, [], ◌∷◌, length, map, Contains, IsTrue, refl, sym, ap, ap₂, ◌∙◌, subst, arith, ⊎_elim}
 use Rattle.std.specs.List.{list_any}
-use Rattle.std.proofs.lemmas.Bool.{and_parts, eqb-true, eq-eqb, ltb-true, ltb-false, lt-ltb}
+use Rattle.std.proofs.Math.Bool.{and-false}
+use Rattle.std.proofs.lemmas.Bool.{and_parts, cases_lt, eqb-true, eq-eqb, lt-ltb, or_right}
 use Rattle.std.proofs.lemmas.List.{length-map}
-use Rattle.fancy_analysis.specs.Reads.{is_named}
-use Rattle.fancy_analysis.proofs.ReadNodes.{read-nodes, read-numbered}
+use Rattle.fancy_analysis.specs.LateReads.{is_named}
+use Rattle.fancy_analysis.proofs.InfoNodes.{read-nodes, read-numbered}
 use Rattle.std.proofs.lemmas.List.Elements.{Contains-append_right}
 use Rattle.fancy_meaning.specs.Tree.{Tree, Assert, Repeat, Backref, BackrefWithLevel, BackrefExists, AstNode, UnresolvedCall, UnresolvedOther, Within, NoLook, Unresolved}
 use Rattle.fancy_meaning.specs.Nodes.{nodes, group_count, is_read, read_by}
 use Rattle.fancy_meaning.specs.Numbering.{numbered_within, numbered}
-use Rattle.fancy_meaning.specs.Options.{ParsedTree, AnalysisOptions}
+use Rattle.fancy_meaning.specs.Options.{ParsedTree, AnalysisOptions, analysis_of}
 use Rattle.fancy_meaning.specs.WellFormed.{refers, is_call}
-use Rattle.fancy_meaning.specs.AnalysisRefusals.{CompileError, AnalysisRefuses, RefusesBeforeEnd, is_back_to, is_lazy, has_level, is_no_group, before_end, never_ends, named_groups_with_numbers, reference_to_0, reference_after_call, unresolved_call, unresolved_node, reference_with_level, lazy_loop, group_out_of_range, left_recursion, FeatureNotYetSupported, InvalidBackref, NeverEndingRecursion, ReadsAfterCall}
+use Rattle.fancy_meaning.specs.AnalysisRefusals.{CompileError, AnalysisRefuses, RefusesBeforeEnd, is_back_to, is_lazy, has_level, is_no_group, before_end, never_ends, named_groups_with_numbers, reference_to_0, reference_after_call, unresolved_call, unresolved_node, reference_with_level, lazy_loop, group_out_of_range, left_recursion, FeatureNotYetSupported, InvalidBackref, NeverEndingRecursion, ReadsAfterCall, LeftRecursiveSubroutineCall}
 use Rattle.fancy_expr.specs.Questions.{is_refused}
 use Rattle.fancy_analysis.specs.Refusals.{refusal_of, HasNoRefusedNode, IsAnalysable}
 use Rattle.fancy_meaning.specs.Recursion.{IsLeftRecursive, CanEnd}
 use Rattle.fancy_expr.proofs.Listed.{any-map, any_passes, any_fails_at, true_false, false_true}
 use Rattle.fancy_expr.proofs.Numbered.{nodes-numbered, count-numbered}
 use Rattle.fancy_analysis.proofs.NoCalls.{leads_nowhere, no_read_after_call}
+use Rattle.fancy_analysis.specs.Names.{IsDescriptionOfLeast}
 
 -- ---- a test that some node passes
 
@@ -89,16 +91,8 @@ is_unresolved UnresolvedOther e h = absurd (false_true h)
 
 -- ---- each refused node is refused for a case
 
-and_false : (b : Bool) → (b && false) ≡ false
-and_false true = refl
-and_false false = refl
-
 below_or : (g n : ℕ) → (n ≤ g → ⊥) → g < n
-below_or g n h = by_test (nat_lt g n) refl
-  where
-    by_test : (t : Bool) → nat_lt g n ≡ t → g < n
-    by_test true is = ltb-true g n is
-    by_test false is = absurd (h (ltb-false g n is))
+below_or g n h = ⊎_elim (λ lt. lt) (λ le. absurd (h le)) (cases_lt g n)
 
 module _ (p : ParsedTree) (options : AnalysisOptions) where
   abbrev first : ℕ
@@ -232,10 +226,6 @@ module _ (p : ParsedTree) (options : AnalysisOptions) where
   names_it g (BackrefExists k level) h = eq-eqb k g (sym (eqb-true g k h))
   names_it g x h = absurd (false_true h)
 
-  or_right : (a b : Bool) → b ≡ true → (a || b) ≡ true
-  or_right true b h = refl
-  or_right false b h = h
-
   past_last : (g : ℕ) (b : Bool) → options.explicit_capture_group_0 ≡ b → p.total_groups < g → last < g
   past_last g true is h =
       let at : first ≡ 0 = ap (λ t. if t then 0 else 1) is in
@@ -254,7 +244,7 @@ module _ (p : ParsedTree) (options : AnalysisOptions) where
 
   flag : (n g : ℕ) (b : Bool) → (b ≡ true → g < n) → (nat_lt g n && b) ≡ b
   flag n g true h = ap (λ t. t && true) (lt-ltb g n (h refl))
-  flag n g false h = and_false (nat_lt g n)
+  flag n g false h = and-false (nat_lt g n)
 
   pub flag_is_read : p.total_groups ≡ group_count p.tree → HasNoRefusedNode p options → (g : ℕ) →
       (nat_lt g (p.total_groups + 1) && is_read p.tree g) ≡ is_read whole g
@@ -267,20 +257,12 @@ module _ (p : ParsedTree) (options : AnalysisOptions) where
 map_nothing : {X Y : Type 0} (f : X → Y) (xs : List X) → map f xs ≡ [] → length xs ≡ 0
 map_nothing f xs h = sym (length-map xs f) ∙ ap length h
 
-and_left : (a b : Bool) → (a && b) ≡ true → a ≡ true
-and_left true b h = refl
-and_left false b h = absurd (false_true h)
-
-and_right : (a b : Bool) → (a && b) ≡ true → b ≡ true
-and_right true b h = h
-and_right false b h = absurd (false_true h)
-
 pub names_there : {X Y : Type 0} (f : X → Y) (xs : List X) (b : Bool) → (b && not (length xs == 0)) ≡ true → map f xs ≡ [] → ⊥
 names_there f xs b h none =
-    false_true (ap not (sym (eq-eqb (length xs) 0 (map_nothing f xs none))) ∙ and_right b (not (length xs == 0)) h)
+    false_true (ap not (sym (eq-eqb (length xs) 0 (map_nothing f xs none))) ∙ (and_parts b (not (length xs == 0)) h).1)
 
 pub named_flags : {X : Type 0} (xs : List X) (b : Bool) → (b && not (length xs == 0)) ≡ true → b ≡ true
-named_flags xs b h = and_left b (not (length xs == 0)) h
+named_flags xs b h = (and_parts b (not (length xs == 0)) h).0
 
 pub names_absent : {X Y : Type 0} (f : X → Y) (xs : List X) (b : Bool) → (b && not (length xs == 0)) ≡ false → b ≡ true → ¬ (map f xs ≡ []) → ⊥
 names_absent f [] b h given some = some refl
@@ -291,3 +273,29 @@ names_absent f (x ∷ xs) b h given some =
     no_zero : (t : Bool) → (suc (length xs) == 0) ≡ t → not (suc (length xs) == 0) ≡ false → ⊥
     no_zero true is tested = absurd (omega (arith, eqb-true (suc (length xs)) 0 is))
     no_zero false is tested = true_false (ap not (sym is) ∙ tested)
+
+module _ (p : ParsedTree) (options : AnalysisOptions) where
+  abbrev whole_tree : Tree
+  whole_tree = (analysis_of p.tree options).tree
+
+  pub late_refused : (g : ℕ) × ReadsAfterCall whole_tree g → AnalysisRefuses p options FeatureNotYetSupported
+  late_refused late = before_end (reference_after_call late.0 late.1)
+
+  pub left_refused : (text : List ℕ) → IsDescriptionOfLeast whole_tree p.named_groups text → AnalysisRefuses p options (LeftRecursiveSubroutineCall text)
+  left_refused text d = before_end (left_recursion d.group text d.is_least d.describes)
+
+  module _ (counted : p.total_groups ≡ group_count p.tree) (quiet : HasNoRefusedNode p options) where
+    pub without_calls : list_any is_call (nodes p.tree) ≡ false → IsAnalysable p options
+    unfolding numbered
+    without_calls none =
+        let none_in = no_call_in p options none in
+        accepted p options counted quiet (no_late_in p options none_in) (no_left_in p options none_in) (λ some cannot. true_false (sym some ∙ none_in))
+
+    pub that_end : ((g : ℕ) → ¬ ReadsAfterCall whole_tree g) → ((g : ℕ) → ¬ IsLeftRecursive whole_tree g) → CanEnd whole_tree whole_tree → IsAnalysable p options
+    unfolding numbered
+    that_end no_late no_left ends = accepted p options counted quiet no_late no_left (λ some cannot. cannot ends)
+
+    pub never_refused : ((g : ℕ) → ¬ ReadsAfterCall whole_tree g) → ((g : ℕ) → ¬ IsLeftRecursive whole_tree g) → list_any is_call (nodes p.tree) ≡ true →
+        ¬ CanEnd whole_tree whole_tree → AnalysisRefuses p options NeverEndingRecursion
+    unfolding numbered
+    never_refused no_late no_left some cannot = refused_at_end p options counted quiet no_late no_left some cannot

@@ -1,17 +1,309 @@
--- The steps of a depth-first search for a cycle.
-use Rattle.std.proofs.Common.{◌≡◌, ◌≢◌, ℕ, zero, suc, ◌+◌, ◌<◌, ◌≤◌, Bool, true, false, not, cond, List, [], ◌∷◌, ◌++◌, slice_index_or, length, filter, set, replicate, All, Contains, Vec, Global, ◌⊎◌, inl, inr, refl, sym, ap, ◌∙◌, subst, arith}
-use Rattle.std.proofs.lemmas.Bool.{both_ways, cases_eq}
-use Rattle.std.proofs.lemmas.List.{length-set, length-append, length-replicate, get_or-replicate, get_or-set_same, get_or-set_other}
-use Rattle.std.proofs.lemmas.List.Elements.{Contains-append_left, Contains-push, Contains-push_cases, All-contains}
-use Rattle.fancy_analysis.proofs.EndingRules.{no_flag}
+-- Searches along links: what is reached, and what leads into a cycle.
+use Rattle.std.proofs.Common.{◌≡◌, ◌⊎◌, zero, suc, List, ◌∷◌, Contains, refl, arith, inl, inr, ◌≢◌, ℕ, ◌+◌, ◌<◌, Bool, true, false, cond, [], length, get_or, ap, ◌∙◌, get_or-set_same, get_or-set_other, ◌++◌, map, All, Vec, Global, ⊎_elim, sym, subst, ◌≤◌, not, take, filter, replicate}
+use Rattle.std.proofs.Math.ListN.{set}
+use Rattle.std.proofs.lemmas.Bool.{cases_eq, both_ways, cases_lt}
+use Rattle.std.proofs.lemmas.List.Sums.{sum_by-set}
+use Rattle.std.specs.List.{count_by, sum_by}
+use Rattle.fancy_analysis.specs.Reached.{flag, ListsOneMore, listed, IsReached, the_whole, further, HasRoom, AreReached, AreWays, Reaches, IsLinkedAtOnce, LeadsOn, by_one, by_more, LeadsIntoCycle, IsLeastIntoCycle, BeginsWith, IsChain, IsState, is_done, left_of}
+use Rattle.std.proofs.lemmas.List.{map-set, length-append, length-map, length-set, get_or_past, length-replicate, get_or-replicate}
+use Rattle.std.proofs.lemmas.List.Elements.{Contains-append_left, Contains-push, Contains-push_cases, All-head, All-tail, All-more, All-contains, Contains-append_right, Contains-append_cases}
+use Rattle.std.proofs.Math.Seq.{take-append_seam}
 use Rattle.fancy_analysis.specs.declared.links.Link.{Link}
-use Rattle.fancy_analysis.specs.Cycles.{BeginsWith, IsChain, IsState, is_done, left_of}
-use Rattle.fancy_analysis.specs.Reached.{AreReached, AreWays, HasRoom, IsLeastIntoCycle, IsLinkedAtOnce, IsReached, LeadsIntoCycle, LeadsOn, by_more, by_one, flag, listed}
-use Rattle.fancy_analysis.proofs.Cycles.{cycle_begins, cycle_inside}
-use Rattle.fancy_analysis.proofs.Flags.{flag_inside, flag_written, one_less}
-use Rattle.fancy_analysis.proofs.LinkFlags.{room_kept}
-use Rattle.fancy_analysis.proofs.Members.{contains_cases, contains_first, contains_later}
-use Rattle.fancy_analysis.proofs.NumberLists.{Lists, listed_other, listed_same, none_in, total_less}
+use Rattle.fancy_analysis.proofs.EndingRules.{no_flag}
+
+pub contains_cases : {X : Type 0} (x y : X) (xs : List X) → Contains (x ∷ xs) y → (x ≡ y) ⊎ Contains xs y
+contains_cases x y xs (zero, lt, e) = inl e
+contains_cases x y xs (suc k, lt, e) = inr (k, omega arith, e)
+
+pub contains_first : {X : Type 0} (x : X) (xs : List X) → Contains (x ∷ xs) x
+contains_first x xs = (0, omega arith, refl)
+
+pub contains_later : {X : Type 0} (x y : X) (xs : List X) → Contains xs y → Contains (x ∷ xs) y
+contains_later x y xs c = (suc c.0, (let lt = c.1 in omega arith), c.2)
+
+-- one that passes is changed to one that does not
+pub one_less : {X : Type 0} (p : X → Bool) (xs : List X) (i : ℕ) (d y : X) → i < length xs → p (get_or xs i d) ≡ true → p y ≡ false →
+    count_by p (set xs i y) + 1 ≡ count_by p xs
+one_less {X} p xs i d y h at there =
+    let f : X → ℕ = λ x. cond (p x) 1 0 in
+    let before : f (get_or xs i d) ≡ 1 = ap (λ b. cond b 1 0) at in
+    let after : f y ≡ 0 = ap (λ b. cond b 1 0) there in
+    let change = sum_by-set f xs i y d h in
+    omega arith
+
+-- what is set has a flag
+pub flag_inside : (flags : List Bool) (n : ℕ) → flag flags n ≡ true → n < length flags
+flag_inside [] n h = cc
+flag_inside (x ∷ flags) zero h = omega arith
+flag_inside (x ∷ flags) (suc n) h = let more = flag_inside flags n h in omega arith
+
+pub flag_written : (flags : List Bool) (i n : ℕ) (b : Bool) → i < length flags →
+    ((n ≡ i) × (flag (set flags i b) n ≡ b)) ⊎ ((n ≢ i) × (flag (set flags i b) n ≡ flag flags n))
+flag_written flags i n b h = elim (cases_eq n i) [
+  | inl e ↦ inl (e, ap (flag (set flags i b)) e ∙ get_or-set_same flags i b false h)
+  | inr ne ↦ inr (ne, get_or-set_other flags i n b false ne)
+]
+
+abbrev pub Lists : Type 0
+Lists = List (Vec ℕ Global)
+
+pub no_more : (xs : List ℕ) → length xs ≡ 0 → xs ≡ []
+no_more [] e = refl
+no_more (x ∷ xs) e = absurd (omega arith)
+
+pub none_in : (x : ℕ) → Contains [] x → ⊥
+none_in x h = omega (arith, h.1)
+
+-- at first none are listed
+pub listed_none : (lists : Lists) → All (λ list. list.items ≡ []) lists → (n : ℕ) → listed lists n ≡ []
+listed_none [] all n = refl
+listed_none (v ∷ lists) all zero = All-head (λ list. list.items ≡ []) v lists all
+listed_none (v ∷ lists) all (suc n) = listed_none lists (All-tail (λ list. list.items ≡ []) v lists all) n
+
+-- the list of a number that has one
+pub listed_at : (lists : Lists) (n : ℕ) (v : Vec ℕ Global) → n < length lists → v ≡ get_or lists n v → listed lists n ≡ v.items
+listed_at [] n v lt is = absurd (omega arith)
+listed_at (w ∷ lists) zero v lt is = ap (λ x. x.items) (sym is)
+listed_at (w ∷ lists) (suc n) v lt is = listed_at lists n v (omega arith) is
+
+listed_or : (lists : Lists) (k : ℕ) (d : Vec ℕ Global) → k < length lists → listed lists k ≡ (get_or lists k d).items
+listed_or [] k d lt = absurd (omega arith)
+listed_or (w ∷ lists) zero d lt = refl
+listed_or (w ∷ lists) (suc k) d lt = listed_or lists k d (omega arith)
+
+pub listed_within : (lists : Lists) (n h : ℕ) → Contains (listed lists n) h → n < length lists
+listed_within [] n h there = absurd (none_in h there)
+listed_within (w ∷ lists) zero h there = omega arith
+listed_within (w ∷ lists) (suc n) h there = let more = listed_within lists n h there in omega arith
+
+pub listed_same : (lists : Lists) (n : ℕ) (v : Vec ℕ Global) → n < length lists → listed (set lists n v) n ≡ v.items
+listed_same lists n v lt =
+    ap (λ l. get_or l n []) (map-set (λ w. w.items) lists n v)
+    ∙ get_or-set_same (map (λ w. w.items) lists) n v.items [] (omega (arith, length-map lists (λ w. w.items)))
+
+pub listed_other : (lists : Lists) (n h : ℕ) (v : Vec ℕ Global) → h ≢ n → listed (set lists n v) h ≡ listed lists h
+listed_other lists n h v ne =
+    ap (λ l. get_or l h []) (map-set (λ w. w.items) lists n v) ∙ get_or-set_other (map (λ w. w.items) lists) n h v.items [] ne
+
+pub one_more_listed : (lists : Lists) (n x : ℕ) (v : Vec ℕ Global) → n < length lists → v.items ≡ listed lists n ++ x ∷ [] →
+    ListsOneMore lists (set lists n v) n x
+one_more_listed lists n x v lt is =
+    let here : listed (set lists n v) n ≡ listed lists n ++ x ∷ [] = listed_same lists n v lt ∙ is in
+    record {
+      same_length = length-set lists n v;
+      kept = λ h g there. ⊎_elim
+          (λ same. subst (λ k. Contains (listed (set lists n v) k) g) (sym same)
+          (subst (λ l. Contains l g) (sym here) (Contains-append_left (listed lists n) (x ∷ []) g (subst (λ k. Contains (listed lists k) g) same there))))
+          (λ ne. subst (λ l. Contains l g) (sym (listed_other lists n h v ne)) there)
+          (cases_eq h n);
+      there = λ _. subst (λ l. Contains l x) (sym here) (Contains-push (listed lists n) x);
+      only = λ h g there. ⊎_elim
+          (λ same. ⊎_elim
+          (λ old. inl (subst (λ k. Contains (listed lists k) g) (sym same) old))
+          (λ e. inr (same, sym e))
+          (Contains-push_cases (listed lists n) x g (subst (λ l. Contains l g) (ap (listed (set lists n v)) same ∙ here) there)))
+          (λ ne. inl (subst (λ l. Contains l g) (listed_other lists n h v ne) there))
+          (cases_eq h n);
+    }
+
+-- one fewer in all
+pub total_less : (lists : Lists) (n x : ℕ) (v : Vec ℕ Global) → n < length lists → listed lists n ≡ v.items ++ x ∷ [] →
+    sum_by (λ w. length w.items) lists ≡ sum_by (λ w. length w.items) (set lists n v) + 1
+total_less lists n x v lt is =
+    let e = sum_by-set (λ w. length w.items) lists n v v lt in
+    let same = ap length (listed_or lists n v lt) in
+    let more : length (listed lists n) ≡ length v.items + 1 = ap length is ∙ length-append v.items (x ∷ []) in
+    omega arith
+
+pub room_kept : (links : List Link) (before after : List Bool) → length before ≡ length after → HasRoom links before → HasRoom links after
+room_kept links before after long room = record {
+  whole = let w = room.whole in omega arith;
+  each = λ k d lt. let w = room.each k d lt in omega arith;
+}
+
+pub room_none : (links : List Link) (flags : List Bool) → 0 < length flags → HasRoom (take 0 links) flags
+room_none links flags h = record { whole = h; each = λ k d lt. absurd (omega arith) }
+
+pub same_one : (flags : List Bool) (b : Bool) → flags ≡ b ∷ [] → All (λ x. x ≡ b) flags
+same_one flags b one = subst (All (λ x. x ≡ b)) (sym one) only where
+  only : All (λ x. x ≡ b) (b ∷ [])
+  only zero d h = refl
+  only (suc k) d h = absurd (omega arith)
+
+pub room_more : (links : List Link) (before after : List Bool) (i : ℕ) (d link : Link) → i < length links → link ≡ get_or links i d →
+    length before ≤ length after → link.from < length after → HasRoom (take i links) before → HasRoom (take (i + 1) links) after
+room_more links before after i d link h at longer from room = record {
+  whole = omega (arith, room.whole);
+  each = All-more (λ l. l.from < length after) links i d h (λ k d lt. let w = room.each k d lt in omega arith) (subst (λ l. l.from < length after) at from);
+}
+
+-- ---- what is set at first
+
+pub none_set : (flags : List Bool) → All (λ b. b ≡ false) flags → (n : ℕ) → flag flags n ≡ false
+none_set flags all n = elim (cases_lt n (length flags)) [ inl lt ↦ all n false lt | inr ge ↦ get_or_past flags n false ge ]
+
+-- what a call that was lent a list leaves of it
+pub written_back : {X : Type 0} (n : ℕ) (xs ys : List X) → n ≡ length ys → take n (ys ++ xs) ≡ ys
+written_back n xs ys h = ap (λ k. take k (ys ++ xs)) h ∙ take-append_seam ys xs
+
+-- ---- what is reached
+
+pub reaches_new : (flags : List Bool) (next : List ℕ) (m : ℕ) → m < length flags → flag flags m ≡ false →
+    Reaches (m ∷ []) flags (set flags m true) next (next ++ m ∷ [])
+reaches_new flags next m h off =
+    let long : length (set flags m true) ≡ length flags = length-set flags m true in
+    let less = one_less not flags m false true h (ap not off) refl in
+    let here : flag (set flags m true) m ≡ true = get_or-set_same flags m true false h in
+    record {
+      same_length = long;
+      kept = λ n at. elim (flag_written flags m n true h) [ inl w ↦ w.1 | inr w ↦ w.1 ∙ at ];
+      only = λ n at. elim (flag_written flags m n true h) [
+        | inl w ↦ inr (subst (Contains (m ∷ [])) (sym w.0) (contains_first m []))
+        | inr w ↦ inl (sym w.1 ∙ at)
+      ];
+      there = λ n there lt. elim (contains_cases m n [] there) [
+        | inl e ↦ ap (flag (set flags m true)) (sym e) ∙ here
+        | inr bad ↦ absurd (none_in n bad)
+      ];
+      waits = λ n at. elim (flag_written flags m n true h) [
+        | inl w ↦ inr (subst (Contains (next ++ m ∷ [])) (sym w.0) (Contains-push next m))
+        | inr w ↦ inl (sym w.1 ∙ at)
+      ];
+      still = λ n there. Contains-append_left next (m ∷ []) n there;
+      is_set = λ n there. elim (Contains-push_cases next m n there) [
+        | inl old ↦ inl old
+        | inr e ↦ inr (ap (flag (set flags m true)) (sym e) ∙ here)
+      ];
+      fewer = omega (arith, length-append next (m ∷ []));
+    }
+
+pub reaches_more : (a b : List ℕ) (f g h : List Bool) (x y z : List ℕ) → Reaches a f g x y → Reaches b g h y z → Reaches (a ++ b) f h x z
+reaches_more a b f g h x y z p q = record {
+  same_length = q.same_length ∙ p.same_length;
+  kept = λ n at. q.kept n (p.kept n at);
+  only = λ n at. elim (q.only n at) [
+    | inl before ↦ elim (p.only n before) [ inl old ↦ inl old | inr there ↦ inr (Contains-append_left a b n there) ]
+    | inr there ↦ inr (Contains-append_right a b n there)
+  ];
+  there = λ n there lt. elim (Contains-append_cases a b n there) [
+    | inl left ↦ q.kept n (p.there n left lt)
+    | inr right ↦ q.there n right (omega (arith, p.same_length))
+  ];
+  waits = λ n at. elim (q.waits n at) [
+    | inl before ↦ elim (p.waits n before) [ inl old ↦ inl old | inr there ↦ inr (q.still n there) ]
+    | inr there ↦ inr there
+  ];
+  still = λ n there. q.still n (p.still n there);
+  is_set = λ n there. elim (q.is_set n there) [
+    | inl before ↦ elim (p.is_set n before) [ inl old ↦ inl old | inr at ↦ inr (q.kept n at) ]
+    | inr at ↦ inr at
+  ];
+  fewer = omega (arith, p.fewer, q.fewer);
+}
+
+-- where it leads from one that is set, it leads to one that is set, if that has a flag
+abbrev StaysWithin : List Bool → Link → Type 0
+StaysWithin flags link = flag flags link.from ≡ true → link.to < length flags → flag flags link.to ≡ true
+
+-- what is reached is set, where no link leads out
+reached_all : (links : List Link) (flags : List Bool) → HasRoom links flags → flag flags 0 ≡ true → All (StaysWithin flags) links → (n : ℕ) →
+    IsReached links n → n < length flags → flag flags n ≡ true
+reached_all links flags room whole stays n the_whole h = whole
+reached_all links flags room whole stays n (further {g} r l) h =
+    let inside = All-contains (λ x. x.from < length flags) links l.link room.each l.is_there in
+    let from : flag flags g ≡ true = reached_all links flags room whole stays g r (subst (λ x. x < length flags) l.leads_from inside) in
+    let on : StaysWithin flags l.link = All-contains (StaysWithin flags) links l.link stays l.is_there in
+    ap (flag flags) (sym l.leads_to) ∙ on (ap (flag flags) l.leads_from ∙ from) (subst (λ x. x < length flags) (sym l.leads_to) h)
+
+-- what links lead to from a number that is set is set too, or the number comes next
+pub record IsReaching (links : List Link) (ways : List (Vec ℕ Global)) (flags : List Bool) (next : List ℕ) : Type 0 where
+  pub whole : flag flags 0 ≡ true
+  pub only : (n : ℕ) → flag flags n ≡ true → IsReached links n
+  pub is_set : (n : ℕ) → Contains next n → flag flags n ≡ true
+  pub on : (g : ℕ) → flag flags g ≡ true → Contains next g ⊎ ((h : ℕ) → Contains (listed ways g) h → h < length flags → flag flags h ≡ true)
+
+pub reaching_first : (links : List Link) (ways : List (Vec ℕ Global)) (before flags : List Bool) (next : List ℕ) → 0 < length before →
+    All (λ b. b ≡ false) before → Reaches (0 ∷ []) before flags [] next → IsReaching links ways flags next
+reaching_first links ways before flags next whole clear r = record {
+  whole = r.there 0 (contains_first 0 []) whole;
+  only = λ n at. elim (r.only n at) [
+    | inl old ↦ absurd (both_ways (flag before n) (none_set before clear n) old)
+    | inr there ↦ elim (contains_cases 0 n [] there) [ inl e ↦ subst (IsReached links) e the_whole | inr bad ↦ absurd (none_in n bad) ]
+  ];
+  is_set = λ n there. elim (r.is_set n there) [ inl old ↦ absurd (none_in n old) | inr at ↦ at ];
+  on = λ g at. elim (r.waits g at) [
+    | inl old ↦ absurd (both_ways (flag before g) (none_set before clear g) old)
+    | inr there ↦ inl there
+  ];
+}
+
+pub reaching_next : (links : List Link) (ways : List (Vec ℕ Global)) (before after : List Bool) (rest new : List ℕ) (m : ℕ) → AreWays links ways →
+    IsReaching links ways before (rest ++ m ∷ []) → Reaches (listed ways m) before after rest new → IsReaching links ways after new
+reaching_next links ways before after rest new m w p r = record {
+  whole = r.kept 0 p.whole;
+  only = λ n at. elim (r.only n at) [
+    | inl old ↦ p.only n old
+    | inr there ↦ further (p.only m (p.is_set m (Contains-push rest m))) (w.only m n there)
+  ];
+  is_set = λ n there. elim (r.is_set n there) [
+    | inl old ↦ r.kept n (p.is_set n (Contains-append_left rest (m ∷ []) n old))
+    | inr at ↦ at
+  ];
+  on = λ g at. elim (r.waits g at) [
+    | inl old ↦ elim (p.on g old) [
+      | inl there ↦ elim (Contains-push_cases rest m g there) [
+        | inl still ↦ inl (r.still g still)
+        | inr e ↦ inr (λ h way lt. r.there h (subst (λ k. Contains (listed ways k) h) (sym e) way) (omega (arith, r.same_length)))
+      ]
+      | inr all ↦ inr (λ h way lt. r.kept h (all h way (omega (arith, r.same_length))))
+    ]
+    | inr there ↦ inl there
+  ];
+}
+
+pub reaching_done : (links : List Link) (ways : List (Vec ℕ Global)) (flags : List Bool) → AreWays links ways → HasRoom links flags →
+    IsReaching links ways flags [] → AreReached links flags
+reaching_done links ways flags w room p = record {
+  room = room;
+  only = p.only;
+  all = reached_all links flags room p.whole stays;
+} where
+  stays : All (StaysWithin flags) links
+  stays k d lt at inside =
+      elim (p.on (get_or links k d).from at) [
+        | inl bad ↦ absurd (none_in (get_or links k d).from bad)
+        | inr all ↦ all (get_or links k d).to (w.all k d lt) inside
+      ]
+
+module _ (links : List Link) where
+  -- the first link, and what is left
+  record Begins (n c : ℕ) : Type 0 where
+    pub to : ℕ
+    pub link : IsLinkedAtOnce links n to
+    pub rest : (c ≡ to) ⊎ LeadsOn links to c
+
+  begins : (n c : ℕ) → LeadsOn links n c → Begins n c
+  begins n c (by_one link) = record { to = c; link = link; rest = inl refl }
+  begins n c (by_more {h} p q) =
+      let b = begins n h p in
+      record {
+        to = b.to;
+        link = b.link;
+        rest = inr (elim b.rest [ inl e ↦ subst (λ x. LeadsOn links x c) e q | inr on ↦ by_more on q ]);
+      }
+
+  pub cycle_begins : (n : ℕ) → LeadsIntoCycle links n → (m : ℕ) × IsLinkedAtOnce links n m × LeadsIntoCycle links m
+  cycle_begins n c =
+      let from : LeadsOn links n c.on_cycle = elim c.leads [ inl e ↦ subst (λ x. LeadsOn links x c.on_cycle) e c.cycle | inr on ↦ on ] in
+      let b = begins n c.on_cycle from in
+      (b.to, b.link, record { on_cycle = c.on_cycle; leads = b.rest; cycle = c.cycle })
+
+  module _ (flags : List Bool) where
+    pub cycle_inside : HasRoom links flags → (n : ℕ) → LeadsIntoCycle links n → n < length flags
+    cycle_inside room n c =
+        let b = cycle_begins n c in
+        let h = All-contains (λ link. link.from < length flags) links b.1.link room.each b.1.is_there in
+        subst (λ x. x < length flags) b.1.leads_from h
 
 -- ---- the path
 
@@ -317,8 +609,3 @@ none_further links flags n none here m lt at l = elim (cases_eq m n) [
   | inl e ↦ here (ap (flag flags) (sym e) ∙ at) (subst (LeadsIntoCycle links) e l)
   | inr ne ↦ none m (omega arith) at l
 ]
-
-pub flag_at : (flags : List Bool) (n : ℕ) (d : Bool) → n < length flags → slice_index_or flags n d ≡ flag flags n
-flag_at [] n d lt = absurd (omega arith)
-flag_at (x ∷ flags) zero d lt = refl
-flag_at (x ∷ flags) (suc n) d lt = flag_at flags n d (omega arith)

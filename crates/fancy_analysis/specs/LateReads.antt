@@ -1,39 +1,17 @@
--- References behind a call of their group, inside it, found by one walk in the order of the tree.
-use Rattle.std.specs.Prelude.{ℕ, Bool, false, ◌&&◌, ◌||◌, ◌==◌, List, [], ◌∷◌, ◌++◌}
-use Rattle.fancy_meaning.specs.Tree.{Tree, Trees, none, more, Concat, Alt, Group, LookAround, Repeat, AtomicGroup, DefineGroup, Conditional, AbsentRepeater, AbsentStopper, AbsentExpression, Backref, SubroutineCall}
+-- References behind a call of their group, inside it; and the test whether the group that a node reads is this one.
+use Rattle.std.specs.Prelude.{ℕ, Bool, false, ◌&&◌, ◌||◌, ◌==◌, List, [], ◌∷◌, Option, Some, None, nat_eq}
+use Rattle.std.specs.List.{fold, list_any}
+use Rattle.fancy_meaning.specs.Tree.{Tree, Group, Backref, SubroutineCall}
+use Rattle.fancy_meaning.specs.Spots.{Spot}
+use Rattle.fancy_meaning.specs.AnalysisRefusals.{is_back_to, spots_in_group}
 use Rattle.fancy_analysis.specs.declared.late_reads.Met.{Met}
 use Rattle.fancy_expr.specs.declared.expr.Expr.{Expr}
 use Rattle.fancy_expr.specs.declared.expr.Expr.TheVariants as code
-
--- the innermost group around the children of a node, by that around the node
-abbrev pub owner_inside : ℕ → Tree → ℕ
-owner_inside o (Group g e) = g
-owner_inside o e = o
 
 -- whether the children of a node are group g's own, by whether the node is
 abbrev pub own_inside : Expr → ℕ → ℕ → Bool → Bool
 own_inside (code.Group' b e) n g own = n == g
 own_inside e n g own = own
-
--- every node with the innermost group around it
-abbrev mutual
-  pub owned : ℕ → Tree → List (ℕ × Tree)
-  owned o (Concat es) = (o, Concat es) ∷ owned_in_each o es
-  owned o (Alt es) = (o, Alt es) ∷ owned_in_each o es
-  owned o (Group g e) = (o, Group g e) ∷ owned g e
-  owned o (LookAround look e) = (o, LookAround look e) ∷ owned o e
-  owned o (Repeat lo hi greedy e) = (o, Repeat lo hi greedy e) ∷ owned o e
-  owned o (AtomicGroup e) = (o, AtomicGroup e) ∷ owned o e
-  owned o (DefineGroup e) = (o, DefineGroup e) ∷ owned o e
-  owned o (Conditional c t f) = (o, Conditional c t f) ∷ (owned o c ++ (owned o t ++ owned o f))
-  owned o (AbsentRepeater e) = (o, AbsentRepeater e) ∷ owned o e
-  owned o (AbsentStopper e) = (o, AbsentStopper e) ∷ owned o e
-  owned o (AbsentExpression a e) = (o, AbsentExpression a e) ∷ (owned o a ++ owned o e)
-  owned o e = (o, e) ∷ []
-
-  pub owned_in_each : ℕ → Trees → List (ℕ × Tree)
-  owned_in_each o none = []
-  owned_in_each o (more e es) = owned o e ++ owned_in_each o es
 
 -- past a node, which may be group g's own
 abbrev pub meet : ℕ → Bool → Tree → Met → Met
@@ -41,14 +19,24 @@ meet g own (SubroutineCall h) m = record m { call = m.call || (own && h == g) }
 meet g own (Backref h casei) m = record m { read_after = m.read_after || (m.call && h == g) }
 meet g own e m = m
 
-abbrev pub met_over : ℕ → Met → List (ℕ × Tree) → Met
-met_over g m [] = m
-met_over g m (x ∷ xs) = met_over g (meet g (x.0 == g) x.1 m) xs
+abbrev pub met_over : ℕ → Met → List Spot → Met
+met_over g m ss = fold (λ m s. meet g (s.owner == g) s.node m) m ss
 
-abbrev pub met_nothing : Met
-met_nothing = record { call = false; read_after = false }
+abbrev pub is_own_call : ℕ → Bool → Tree → Bool
+is_own_call g own (SubroutineCall h) = own && h == g
+is_own_call g own e = false
 
--- the node is a group, and in it a reference to it stands behind an own call of it
-abbrev pub is_read_late : Tree → Bool
-is_read_late (Group g e) = (met_over g met_nothing (owned g e)).read_after
-is_read_late e = false
+-- an own call of group g, and a reference to it behind
+abbrev pub is_late : ℕ → List Spot → Bool
+is_late g [] = false
+is_late g (s ∷ ss) = (is_own_call g (s.owner == g) s.node && list_any (λ r. is_back_to g r.node) ss) || is_late g ss
+
+-- the same in the body of a group
+abbrev pub is_read_late : Tree → Tree → Bool
+is_read_late whole (Group g e) = is_late g (spots_in_group whole g e)
+is_read_late whole e = false
+
+-- the number is this one
+abbrev pub is_named : Option ℕ → ℕ → Bool
+is_named None g = false
+is_named (Some h) g = nat_eq g h

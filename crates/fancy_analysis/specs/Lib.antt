@@ -1,13 +1,10 @@
-pub mod AnalysisLimit
 pub mod Analyses
-pub mod Cycles
+pub mod AnalysisLimit
 pub mod Endings
 pub mod LateReads
 pub mod Links
 pub mod Made
 pub mod Names
 pub mod Reached
-pub mod Reads
 pub mod Refusals
 pub mod Rounds
-pub mod Visited

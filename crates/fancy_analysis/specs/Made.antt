@@ -1,6 +1,5 @@
--- A node's size and hardness from those of its children, and when an `Info` was made right.
+-- A node's size and hardness from those of its children, when an `Info` was made right, and what a visit gives.
 use Rattle.std.specs.Prelude.{◌≡◌, ℕ, zero, suc, ◌+◌, Bool, true, false, ◌&&◌, ◌||◌, not, ◌==◌, List, [], ◌∷◌, ◌++◌, map, length, slice_index_or}
-use Rattle.fancy_meaning.specs.Tree as plain
 use Rattle.fancy_meaning.specs.Tree.{Tree, trees}
 use Rattle.fancy_meaning.specs.Nodes.{group_count, groups, is_read}
 use Rattle.fancy_meaning.specs.Options.{Analysis, AnalysisOptions}
@@ -11,16 +10,18 @@ use Rattle.fancy_analysis.specs.declared.make.VisitTables.{VisitTables}
 use Rattle.fancy_info.specs.declared.info.Info.{Info}
 use Rattle.fancy_info.specs.declared.info.Info.TheViews.{out-Info}
 use Rattle.fancy_expr.specs.declared.expr.Absent.{Absent}
-use Rattle.fancy_expr.specs.declared.expr.Absent.TheVariants as code_absent
 use Rattle.fancy_expr.specs.declared.expr.Expr.{Expr}
-use Rattle.fancy_expr.specs.declared.expr.Expr.TheVariants as code
-use Rattle.fancy_expr.specs.Views.{assertion_of, bound_of}
-use Rattle.fancy_expr.specs.Exprs.{below}
+use Rattle.fancy_expr.specs.Views.{assertion_of, bound_of, tree_of}
+use Rattle.fancy_expr.specs.Exprs.{below, exprs}
 use Rattle.fancy_info.specs.Sized.{size_of}
 use Rattle.fancy_info.specs.Infos.{analysis_options_of, node_over, info_tree, info_expr, info_within, EachNode, Facts, tree_over, AreInTurn, IsAnalysed}
 use Rattle.fancy_expr.specs.Each.{Each}
 use Rattle.fancy_expr.specs.Walk.{start_inside, within_inside}
 use Rattle.fancy_analysis.specs.Rounds.{Agree}
+use Rattle.fancy_meaning.specs.Numbering.{numbered_within}
+use Rattle.fancy_meaning.specs.Tree as plain
+use Rattle.fancy_expr.specs.declared.expr.Absent.TheVariants as code_absent
+use Rattle.fancy_expr.specs.declared.expr.Expr.TheVariants as code
 
 abbrev pub nth_size : List Size → ℕ → Size
 nth_size [] i = exactly 0
@@ -133,3 +134,13 @@ pub record IsMadeNode (t : VisitTables) (e : Expr) (start end : ℕ) (w : plain.
       Each (IsSized (known_of a.tree)) children → Each (IsAnalysed a) children →
       AreInTurn (within_inside e w) (start_inside e start) children →
       end ≡ start + group_count (info_tree info) → IsAnalysed a info
+
+pub record IsVisited (t : VisitTables) (e : Expr) (start : ℕ) (w : plain.Within) (info : Info) : Type 0 where
+  pub expr : info_expr info ≡ e
+  pub tree : info_tree info ≡ numbered_within w start (tree_of e)
+  pub start_group : (out-Info info).start_group ≡ start
+  pub end_group : (out-Info info).end_group ≡ start + group_count (tree_of e)
+  pub within : info_within info ≡ w
+  -- by all sizes that agree on the numbers that are named
+  pub size : (known : Known) → Agree (tables_known t) known (exprs e) → IsSized known info
+  pub found : (a : Analysis) → Suits a t → Agree (tables_known t) (known_of a.tree) (exprs e) → IsAnalysed a info

@@ -1,8 +1,7 @@
 //! Links at once that lead into a cycle: one depth-first search, begun at each target that is reached.
 
 ghost use Rattle.std.specs.Prelude.{◌≡◌, ◌<◌, ◌≤◌, ◌⊎◌, ◌++◌, ◌∷◌, ℕ, [], All, IfOk, IsFalse, IsTrue, List, MatchOption, filter, length, slice_set, true};
-ghost use Rattle.fancy_analysis.specs.Cycles.{Drops, Enters, IsLast, IsSearching, Leaves, StepsOn, Tells, is_done};
-ghost use Rattle.fancy_analysis.specs.Reached.{IsLeastIntoCycle, IsReached, LeadsIntoCycle, flag, listed};
+ghost use Rattle.fancy_analysis.specs.Reached.{Drops, Enters, IsLast, IsSearching, Leaves, StepsOn, Tells, is_done, IsLeastIntoCycle, IsReached, LeadsIntoCycle, flag, listed};
 
 use crate::links::Link;
 use crate::reached::{is_set, reached, ways};

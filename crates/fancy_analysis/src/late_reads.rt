@@ -4,10 +4,12 @@ ghost use Rattle.std.specs.Prelude.{◌≡◌, ◌==◌, ℕ, IsFalse, IsTrue};
 ghost use Rattle.std.specs.List.{list_any};
 ghost use Rattle.fancy_meaning.specs.AnalysisRefusals.{ReadsAfterCall};
 ghost use Rattle.fancy_meaning.specs.Nodes.{nodes};
-ghost use Rattle.fancy_meaning.specs.Options.{Analysis};
-ghost use Rattle.fancy_info.specs.Infos.{IsAnalysed, info_facts, info_tree};
-ghost use Rattle.fancy_analysis.specs.LateReads.{is_read_late, meet, met_over, own_inside, owned};
-ghost use Rattle.fancy_expr.specs.Views.{tree_of};
+ghost use Rattle.fancy_meaning.specs.Sizes.{known_of};
+ghost use Rattle.fancy_meaning.specs.Spots.{Around, spots};
+ghost use Rattle.fancy_meaning.specs.Tree as plain;
+ghost use Rattle.fancy_info.specs.Infos.{info_facts, info_tree, node_over};
+ghost use Rattle.fancy_analysis.specs.LateReads.{is_read_late, meet, met_over, own_inside};
+ghost use Rattle.fancy_analysis.specs.Made.{IsSized};
 
 use fancy_expr::expr::Expr;
 use fancy_info::info::Info;
@@ -23,7 +25,8 @@ struct Met {
 
 /// Past a node. It is the group's own if no other group stands between.
 fn meet(expr: &Expr, group: usize, own: bool, met: Met) -> Met
-    ensures { result ≡ meet group own (tree_of expr.now) met }
+    ensures { (n : ℕ) (w : plain.Within) (es : plain.Trees) →
+        result ≡ meet group own (node_over expr.now n w es) met }
 {
     match expr {
         Expr::SubroutineCall(target) => Met {
@@ -52,11 +55,10 @@ fn own_inside(info: &Info, group: usize, own: bool) -> bool
 
 /// Past a node and all below it.
 fn meet_all(info: &Info, group: usize, own: bool, met: Met) -> Met
-    ensures { (a : Analysis)
-        → IsAnalysed a info.now
-        → (owner : ℕ)
-        → (owner == group) ≡ own
-        → result ≡ met_over group met (owned owner (info_tree info.now)) }
+    ensures { (whole : plain.Tree) (a : Around)
+        → IsSized (known_of whole) info.now
+        → (a.owner == group) ≡ own
+        → result ≡ met_over group met (spots whole a (info_tree info.now)) }
 {
     let inside = own_inside(info, group, own);
     let mut met = meet(info.expr, group, own, met);
@@ -67,7 +69,8 @@ fn meet_all(info: &Info, group: usize, own: bool, met: Met) -> Met
 }
 
 fn is_read_late(info: &Info) -> bool
-    ensures { (a : Analysis) → IsAnalysed a info.now → result ≡ is_read_late (info_tree info.now) }
+    ensures { (whole : plain.Tree) → IsSized (known_of whole) info.now →
+        result ≡ is_read_late whole (info_tree info.now) }
 {
     match info.expr {
         Expr::Group(_) => {
@@ -82,8 +85,8 @@ fn is_read_late(info: &Info) -> bool
 }
 
 fn has_late_read(info: &Info) -> bool
-    ensures { (a : Analysis) → IsAnalysed a info.now →
-        result ≡ list_any is_read_late (nodes (info_tree info.now)) }
+    ensures { (whole : plain.Tree) → IsSized (known_of whole) info.now →
+        result ≡ list_any (is_read_late whole) (nodes (info_tree info.now)) }
 {
     if is_read_late(info) {
         return true;
@@ -98,10 +101,11 @@ fn has_late_read(info: &Info) -> bool
 
 /// Whether some group, given the root of the tree, has a back reference to it behind a call of it that is its own.
 pub fn reads_after_call(root: &Info) -> bool
-    ensures { (a : Analysis)
-        → IsAnalysed a root.now
-        → (IsTrue result → (g : ℕ) × ReadsAfterCall (info_tree root.now) g)
-        × (IsFalse result → (g : ℕ) → ¬ ReadsAfterCall (info_tree root.now) g) }
+    ensures { (whole : plain.Tree)
+        → info_tree root.now ≡ whole
+        → IsSized (known_of whole) root.now
+        → (IsTrue result → (g : ℕ) × ReadsAfterCall whole g)
+        × (IsFalse result → (g : ℕ) → ¬ ReadsAfterCall whole g) }
 {
     has_late_read(root)
 }

@@ -6,18 +6,7 @@ ghost use Rattle.fancy_meaning.specs.Sizes.{any_of, either, plus, size_of_group,
 ghost use Rattle.fancy_meaning.specs.Tree as plain;
 ghost use Rattle.fancy_info.specs.Infos.{info_hard, info_size, analysis_options_of};
 ghost use Rattle.fancy_expr.specs.Walk.{within_of};
-ghost use Rattle.fancy_analysis.specs.Made.{
-  IsMadeNode,
-  absent_size,
-  first_true,
-  hard_over,
-  is_hard_by_size,
-  nth_size,
-  read_flag,
-  size_over,
-  some_true,
-  tables_known,
-};
+ghost use Rattle.fancy_analysis.specs.Made.{IsMadeNode, absent_size, first_true, hard_over, is_hard_by_size, nth_size, read_flag, size_over, some_true, tables_known};
 ghost use Rattle.fancy_info.specs.Sized.{size_of};
 ghost use Rattle.fancy_expr.specs.Views.{assertion_of};
 

@@ -2,7 +2,7 @@
 
 ghost use Rattle.std.specs.Prelude.{◌≡◌, ◌+◌, ◌&&◌, ◌||◌, ℕ, IfOk, false, length, nat_lt, replicate, slice_index_or};
 ghost use Rattle.fancy_meaning.specs.Nodes.{is_read, read_by};
-ghost use Rattle.fancy_analysis.specs.Reads.{is_named};
+ghost use Rattle.fancy_analysis.specs.LateReads.{is_named};
 ghost use Rattle.fancy_expr.specs.Views.{tree_of};
 
 use fancy_expr::expr::Expr;

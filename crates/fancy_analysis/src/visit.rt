@@ -4,7 +4,7 @@ ghost use Rattle.std.specs.Prelude.{◌≡◌, ◌+◌, ◌<◌, ◌^◌, IfOk};
 ghost use Rattle.fancy_meaning.specs.Nodes.{group_count};
 ghost use Rattle.fancy_expr.specs.Walk.{within_of};
 ghost use Rattle.fancy_expr.specs.Views.{tree_of};
-ghost use Rattle.fancy_analysis.specs.Visited.{IsVisited};
+ghost use Rattle.fancy_analysis.specs.Made.{IsVisited};
 
 use crate::make::{VisitTables, make_info};
 use fancy_expr::expr::Expr;

@@ -17,7 +17,7 @@ use Rattle.fancy_meaning.specs.AnalysisRefusals.{AnalysisRefuses}
 use Rattle.fancy_analysis.specs.Refusals.{HasNoRefusedNode, IsAnalysable}
 use Rattle.fancy_expr.specs.Errors.{error_of}
 use Rattle.fancy_expr.proofs.Listed.{false_true}
-use Rattle.fancy_analysis.proofs.WholeNodes.{whole_visited}
+use Rattle.fancy_analysis.proofs.MadeNodes.{whole_visited}
 use Rattle.fancy_info.specs.Sized.{size_of}
 use Rattle.fancy_expr.specs.Views.{parsed_of}
 use Rattle.fancy_analysis.proofs.RefusalNodes.{flag_is_read}

@@ -1,6 +1,6 @@
 use Rattle.std.proofs.Common.{◌&&◌, ◌||◌, ◌==◌, ap, ◌∙◌}
 use Rattle.fancy_info.specs.Infos.{info_hard, info_size}
-use Rattle.fancy_analysis.proofs.RootNode.{root_made}
+use Rattle.fancy_analysis.proofs.MadeNodes.{root_made}
 use Rattle.fancy_analysis.proofs.analyze.as_root.Goals as goal
 
 pub returns : goal.returns

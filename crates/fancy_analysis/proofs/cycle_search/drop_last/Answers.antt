@@ -1,6 +1,6 @@
 use Rattle.std.proofs.Common.{◌-◌, ◌∷◌, [], length, take, ap, ◌∙◌, arith}
 use Rattle.std.proofs.lemmas.List.{length-append}
-use Rattle.fancy_analysis.proofs.LinkFlags.{written_back}
+use Rattle.fancy_analysis.proofs.SearchSteps.{written_back}
 use Rattle.fancy_analysis.proofs.cycle_search.drop_last.Goals as goal
 
 pub returns : goal.returns

@@ -1,7 +1,8 @@
 use Rattle.std.proofs.Common.{◌≡◌, true, false, sym, ◌∙◌, arith}
+use Rattle.std.proofs.lemmas.List.{get_or_default}
 use Rattle.fancy_expr.proofs.Listed.{true_false}
 use Rattle.fancy_analysis.specs.Reached.{flag}
-use Rattle.fancy_analysis.proofs.SearchSteps.{flag_at, least_found, none_further, none_reached}
+use Rattle.fancy_analysis.proofs.SearchSteps.{least_found, none_further, none_reached}
 use Rattle.fancy_analysis.proofs.cycle_search.least_into_cycle.Goals as goal
 
 pub loop-number-preserved-then-not-index : goal.loop-number-preserved-then-not-index
@@ -9,7 +10,7 @@ loop-number-preserved-then-not-index c =
     let flags = c.in_ok-reached.reached.items in
     let n = c.loop-number.number in
     let at : flag flags n ≡ false =
-    sym (c.index.ensures ∙ flag_at flags n c.index.result.now (omega (arith, c.loop-number-test.true, c.len-number-end.ensures, c.in_ok-reached.reached.ok.0)))
+    sym (c.index.ensures ∙ get_or_default flags n c.index.result.now false (omega (arith, c.loop-number-test.true, c.len-number-end.ensures, c.in_ok-reached.reached.ok.0)))
     ∙ c.if-not-index.true in
     record {
       searching = c.loop-number.invariant.searching;
@@ -31,7 +32,7 @@ returns-then-branch c =
     let flags = c.in_ok-reached.reached.items in
     let n = c.loop-number.number in
     let at : flag flags n ≡ true =
-    sym (c.index.ensures ∙ flag_at flags n c.index.result.now (omega (arith, c.loop-number-test.true, c.len-number-end.ensures, c.in_ok-reached.reached.ok.0)))
+    sym (c.index.ensures ∙ get_or_default flags n c.index.result.now false (omega (arith, c.loop-number-test.true, c.len-number-end.ensures, c.in_ok-reached.reached.ok.0)))
     ∙ c.if-not-index.false in
     least_found c.args.links.now flags n c.in_ok-reached.ensures at (c.in_ok-leads.ensures.cycle c.if-branch.true) c.loop-number.invariant.none
 

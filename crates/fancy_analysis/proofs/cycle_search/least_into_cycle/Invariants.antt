@@ -1,6 +1,5 @@
 use Rattle.std.proofs.Common.{◌≡◌, ◌<◌, ℕ, true, []}
-use Rattle.fancy_analysis.specs.Cycles.{IsSearching}
-use Rattle.fancy_analysis.specs.Reached.{LeadsIntoCycle, flag}
+use Rattle.fancy_analysis.specs.Reached.{IsSearching, LeadsIntoCycle, flag}
 use Rattle.fancy_analysis.proofs.cycle_search.least_into_cycle.Given as goal
 
 abbrev pub invariant-loop-number : goal.invariant-loop-number

@@ -2,7 +2,7 @@ use Rattle.std.proofs.Common.{◌≡◌, ◌&&◌, ◌||◌, false, nat_lt, ◌<
 use Rattle.fancy_analysis.specs.Endings.{ends_by, and_then, node_ends, is_own_end, group_ends}
 use Rattle.fancy_info.specs.Infos.{info_tree, info_children, info_facts}
 use Rattle.fancy_analysis.proofs.InfoNodes.{child_sized}
-use Rattle.fancy_analysis.proofs.EndingParts.{ends-taken, ends-here, flag_more, flag_all}
+use Rattle.fancy_analysis.proofs.EndingRules.{ends-taken, ends-here, flag_more, flag_all}
 use Rattle.fancy_analysis.proofs.endings.+find_ends.Goals as goal
 
 pub loop-child-preserved : goal.loop-child-preserved

@@ -4,7 +4,7 @@ use Rattle.fancy_info.specs.Infos.{info_children}
 use Rattle.fancy_analysis.specs.Made.{IsSized}
 use Rattle.fancy_analysis.specs.Endings.{is_ended_group}
 use Rattle.fancy_analysis.proofs.InfoNodes.{any_in_each}
-use Rattle.fancy_analysis.proofs.EndingParts.{ends_of}
+use Rattle.fancy_analysis.proofs.EndingRules.{ends_of}
 use Rattle.fancy_analysis.proofs.endings.+find_ends.Given as goal
 
 abbrev pub invariant-loop-child : goal.invariant-loop-child

@@ -1,5 +1,5 @@
 use Rattle.std.proofs.Common.{true, false, arith, ◌∙◌}
-use Rattle.fancy_analysis.proofs.EndingRounds.{count-taken, count-all}
+use Rattle.fancy_analysis.proofs.EndingRules.{count-taken, count-all}
 use Rattle.fancy_analysis.proofs.endings.count_set.Goals.{then-flags-i, else-flags-i}
 use Rattle.fancy_analysis.proofs.endings.count_set.Goals as goal
 

@@ -1,11 +1,11 @@
 use Rattle.std.proofs.Common.{◌≡◌, ◌≤◌, ◌<◌, true, false, length, replicate, slice_index_or, arith, ap, ◌∙◌, sym, subst}
 use Rattle.std.proofs.lemmas.Bool.{eq-eqb, ne_eqb}
-use Rattle.std.proofs.lemmas.List.{length-replicate}
+use Rattle.std.proofs.lemmas.List.{get_or_default, length-replicate}
 use Rattle.fancy_meaning.specs.Tree.{Tree}
 use Rattle.fancy_analysis.specs.Endings.{IsRootOf, ending_rounds, flag_count, next_ends, same_count, set_count}
 use Rattle.fancy_expr.proofs.Listed.{false_true}
-use Rattle.fancy_analysis.proofs.EndingRules.{NextFlags, has_flags, grows_next, sound_next, sound_first, first_complete, count_grows, same_flags, all_set, first_flag, no_flag, next_is, next_of_root}
-use Rattle.fancy_analysis.proofs.RoundCounts.{Counts, counts_all, counts_first, counts_more, counts_over, counts_same}
+use Rattle.fancy_analysis.proofs.EndingRules.{NextFlags, has_flags, grows_next, sound_next, sound_first, first_complete, count_grows, same_flags, all_set, no_flag, next_is, next_of_root}
+use Rattle.fancy_analysis.proofs.LimitRounds.{Counts, counts_all, counts_first, counts_more, counts_over, counts_same}
 use Rattle.fancy_analysis.proofs.endings.ends_within.Goals as goal
 
 pub returns-then-count_set : goal.returns-then-count_set
@@ -17,7 +17,7 @@ returns-then-count_set c =
     let held : c.deref.result.now ≡ flags = c.deref.ensures.value in
     let long : length next ≡ length flags = c.in_ok-next.ensures.length ∙ ap length held in
     let some : 0 < length flags = omega (arith, c.loop-round.invariant.long) in
-    let first : c.index.result.now ≡ slice_index_or flags 0 false = c.index.ensures ∙ first_flag flags c.index.result.now some in
+    let first : c.index.result.now ≡ slice_index_or flags 0 false = c.index.ensures ∙ get_or_default flags 0 c.index.result.now false some in
     let counted : set_count next ≡ set_count flags =
     ap set_count (sym c.deref-in-loop-round.ensures.value)
     ∙ sym c.count_set.ensures
@@ -116,7 +116,7 @@ returns c =
     let some : 0 < length flags = omega (arith, c.loop-round.invariant.long) in
     let made = ap length c.in_ok-flags.ensures ∙ length-replicate c.max.result false ∙ c.max.ensures in
     let end : c.loop-round.round ≡ n = omega (arith, c.loop-round-test.false, c.loop-round.auto.round-end, c.len-round-end.ensures, made, c.in_ok-flags.flags.ok.0) in
-    let first : c.index-2.result.now ≡ slice_index_or flags 0 false = c.index-2.ensures ∙ first_flag flags c.index-2.result.now some in
+    let first : c.index-2.result.now ≡ slice_index_or flags 0 false = c.index-2.ensures ∙ get_or_default flags 0 c.index-2.result.now false some in
     record {
       ends = λ whole w.
           let full : length flags ≤ set_count flags = omega (arith, c.loop-round.invariant.is_set whole w, c.loop-round.invariant.long, end) in

@@ -2,7 +2,7 @@ use Rattle.std.proofs.Common.{◌≡◌, ◌≤◌, length}
 use Rattle.fancy_meaning.specs.Tree.{Tree}
 use Rattle.fancy_analysis.specs.Endings.{IsRootOf, ending_rounds, flag_count, next_ends, same_count, set_count}
 use Rattle.fancy_analysis.proofs.EndingRules.{IsSoundFor}
-use Rattle.fancy_analysis.proofs.RoundCounts.{Counts}
+use Rattle.fancy_analysis.proofs.LimitRounds.{Counts}
 use Rattle.fancy_analysis.proofs.endings.ends_within.Given as goal
 
 abbrev pub invariant-loop-round : goal.invariant-loop-round

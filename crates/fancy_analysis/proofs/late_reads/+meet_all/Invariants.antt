@@ -1,15 +1,17 @@
-use Rattle.std.proofs.Common.{◌≡◌, ℕ, ◌==◌, take}
-use Rattle.fancy_meaning.specs.Options.{Analysis}
-use Rattle.fancy_info.specs.Infos.{info_tree, info_children, IsAnalysed}
-use Rattle.fancy_analysis.specs.LateReads.{meet, owner_inside}
-use Rattle.fancy_analysis.proofs.LateReadWalk.{met_in_each}
+use Rattle.std.proofs.Common.{◌≡◌, ◌==◌}
+use Rattle.fancy_meaning.specs.Sizes.{known_of}
+use Rattle.fancy_meaning.specs.Spots.{Around, spots}
+use Rattle.fancy_meaning.specs.Tree.{Tree}
+use Rattle.fancy_info.specs.Infos.{info_tree}
+use Rattle.fancy_analysis.specs.LateReads.{met_over}
+use Rattle.fancy_analysis.specs.Made.{IsSized}
+use Rattle.fancy_analysis.proofs.SpotNodes.{IsOnWay}
 use Rattle.fancy_analysis.proofs.late_reads.+meet_all.Given as goal
 
 abbrev pub invariant-loop-child : goal.invariant-loop-child
 invariant-loop-child l =
-    (a : Analysis)
-    → IsAnalysed a l.info
-    → (owner : ℕ)
-    → (owner == l.group) ≡ l.own
-    → l.met ≡ met_in_each l.group (owner_inside owner (info_tree l.info)) (meet l.group (owner == l.group) (info_tree l.info) l.fn.met)
-    (take l.child-index (info_children l.info))
+    (whole : Tree) (a : Around)
+    → IsSized (known_of whole) l.info
+    → (a.owner == l.group) ≡ l.own
+    → IsOnWay (met_over l.group) whole l.info a (λ r. (r.owner == l.group) ≡ l.inside) (met_over l.group l.fn.met (spots whole a (info_tree l.info)))
+    l.met l.child-index

@@ -1,16 +1,16 @@
 use Rattle.std.proofs.Common.{◌≡◌, sym, ap, ◌∙◌, refl}
 use Rattle.fancy_expr.specs.declared.expr.Absent.TheVariants as code_absent
 use Rattle.fancy_analysis.specs.LateReads.{meet}
-use Rattle.fancy_expr.specs.Views.{tree_of, absent_of}
+use Rattle.fancy_info.specs.Infos.{absent_over, node_over}
 use Rattle.fancy_analysis.proofs.late_reads.meet.Goals as goal
 
 pub returns-in-Absent : goal.returns-in-Absent
-returns-in-Absent c =
+returns-in-Absent c = λ n w es.
     let g = c.args.group in
     let own = c.args.own in
     let met = c.args.met in
-    sym (ap (λ x. meet g own (tree_of x) met) c.in-Absent.is
-    ∙ elim c.in-Absent.field-0 as (λ x. meet g own (absent_of x) met ≡ met) [
+    sym (ap (λ x. meet g own (node_over x n w es) met) c.in-Absent.is
+    ∙ elim c.in-Absent.field-0 as (λ x. meet g own (absent_over x es) met ≡ met) [
       | code_absent.Repeater' b y ↦ refl
       | code_absent.Expression' b y d z ↦ refl
       | code_absent.Stopper' b y ↦ refl
@@ -18,19 +18,19 @@ returns-in-Absent c =
     ])
 
 pub returns-then-met : goal.returns-then-met
-returns-then-met c = rw (c.in-SubroutineCall.is, c.if-met.true)
+returns-then-met c = λ n w es. rw (c.in-SubroutineCall.is, c.if-met.true)
 
 pub returns-then-own : goal.returns-then-own
-returns-then-own c = rw (c.in-SubroutineCall.is, c.if-met.false, c.if-own.true)
+returns-then-own c = λ n w es. rw (c.in-SubroutineCall.is, c.if-met.false, c.if-own.true)
 
 pub returns-else-own : goal.returns-else-own
-returns-else-own c = rw (c.in-SubroutineCall.is, c.if-met.false, c.if-own.false)
+returns-else-own c = λ n w es. rw (c.in-SubroutineCall.is, c.if-met.false, c.if-own.false)
 
 pub returns-then-met-2 : goal.returns-then-met-2
-returns-then-met-2 c = rw (c.in-Backref.is, c.if-met-2.true)
+returns-then-met-2 c = λ n w es. rw (c.in-Backref.is, c.if-met-2.true)
 
 pub returns-then-met-3 : goal.returns-then-met-3
-returns-then-met-3 c = rw (c.in-Backref.is, c.if-met-2.false, c.if-met-3.true)
+returns-then-met-3 c = λ n w es. rw (c.in-Backref.is, c.if-met-2.false, c.if-met-3.true)
 
 pub returns-else-met-3 : goal.returns-else-met-3
-returns-else-met-3 c = rw (c.in-Backref.is, c.if-met-2.false, c.if-met-3.false)
+returns-else-met-3 c = λ n w es. rw (c.in-Backref.is, c.if-met-2.false, c.if-met-3.false)

@@ -2,7 +2,7 @@ use Rattle.std.proofs.Common.{◌≡◌, ℕ, Option, ◌+◌, ◌<◌, MatchOpt
 use Rattle.std.proofs.lemmas.List.{take_all}
 use Rattle.fancy_expr.specs.Exprs.{below, exprs, exprs_of_each}
 use Rattle.fancy_expr.proofs.Exprs.{child_smaller}
-use Rattle.fancy_analysis.proofs.NodeCounts.{count_below, count_taken, count_up_to}
+use Rattle.fancy_analysis.proofs.LimitRounds.{count_below, count_taken, count_up_to}
 use Rattle.fancy_analysis.proofs.limit.+left_after.Goals as goal
 
 pub left_after-requires : goal.left_after-requires

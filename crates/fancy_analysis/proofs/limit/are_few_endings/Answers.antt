@@ -7,9 +7,8 @@ use Rattle.fancy_expr.specs.Views.{tree_of}
 use Rattle.fancy_expr.proofs.Numbered.{count-numbered}
 use Rattle.fancy_analysis.specs.AnalysisLimit.{whole_of}
 use Rattle.fancy_analysis.specs.Endings.{IsRootOf, ending_rounds, flag_count}
-use Rattle.fancy_analysis.proofs.LimitRounds.{told}
-use Rattle.fancy_analysis.proofs.NodeCounts.{same_agree}
-use Rattle.fancy_analysis.proofs.WholeNodes.{root_visited}
+use Rattle.fancy_analysis.proofs.LimitRounds.{told, same_agree}
+use Rattle.fancy_analysis.proofs.MadeNodes.{root_visited}
 use Rattle.fancy_analysis.proofs.limit.are_few_endings.Goals as goal
 
 pub returns : goal.returns

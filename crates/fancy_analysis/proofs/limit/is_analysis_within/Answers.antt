@@ -1,8 +1,7 @@
 use Rattle.std.proofs.Common.{◌≡◌, ◌≤◌, ◌<◌, ◌/◌, length, IsTrue, IsFalse, arith, ◌∙◌, sym, subst}
 use Rattle.fancy_expr.specs.Exprs.{exprs}
 use Rattle.fancy_analysis.specs.AnalysisLimit.{analysis_nodes, analysis_rounds}
-use Rattle.fancy_analysis.proofs.LimitRounds.{most_rounds, ok_weaker, times_none, with_none}
-use Rattle.fancy_analysis.proofs.NodeCounts.{count_below, times_over, times_within}
+use Rattle.fancy_analysis.proofs.LimitRounds.{most_rounds, ok_weaker, times_none, with_none, count_below, times_over, times_within}
 use Rattle.fancy_analysis.proofs.limit.is_analysis_within.Goals as goal
 
 pub returns-then-not-has_names : goal.returns-then-not-has_names

@@ -1,7 +1,7 @@
 use Rattle.std.proofs.Common.{◌≡◌, ◌/◌, ◌-◌, length, sym, ap, arith}
 use Rattle.std.proofs.Math.Nat.{div-eq_of_lt}
 use Rattle.fancy_expr.specs.Exprs.{exprs}
-use Rattle.fancy_analysis.proofs.NodeCounts.{count_below}
+use Rattle.fancy_analysis.proofs.LimitRounds.{count_below}
 use Rattle.fancy_analysis.proofs.limit.rounds_within.Goals as goal
 
 pub returns-in-Some : goal.returns-in-Some

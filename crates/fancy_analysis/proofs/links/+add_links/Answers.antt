@@ -1,19 +1,20 @@
-use Rattle.std.proofs.Common.{◌≡◌, ◌<◌, length, get_or, if◌then◌else◌, sym, ap, ◌∙◌, subst, arith}
+use Rattle.std.proofs.Common.{◌≡◌, ◌<◌, length, get_or, if◌then◌else◌, sym, ap, ◌∙◌, subst, arith, append-nil}
 use Rattle.fancy_meaning.specs.Sizes.{known_of}
-use Rattle.fancy_meaning.specs.Spots.{past}
+use Rattle.fancy_meaning.specs.Spots.{past, spots}
 use Rattle.fancy_info.specs.Infos.{info_children, info_facts, info_tree}
-use Rattle.fancy_analysis.specs.Links.{IsAt, around_inside, follows}
-use Rattle.fancy_analysis.proofs.LinkNodes.{on_way_first, on_way_more, on_way_all, own_added, child_size}
-use Rattle.fancy_analysis.proofs.GroupSizes.{child_sized}
+use Rattle.fancy_analysis.specs.Links.{IsAt, around_inside, follows, links_at}
+use Rattle.fancy_analysis.proofs.InfoNodes.{child_sized}
+use Rattle.fancy_analysis.proofs.SpotNodes.{child_size, links-join, more_links, on_way_first, on_way_more, on_way_all, own_added}
 use Rattle.fancy_analysis.proofs.links.+add_links.Goals as goal
 use Rattle.fancy_analysis.proofs.links.+add_links.Goals.{then-follows, else-follows}
 
 pub loop-i-init : goal.loop-i-init
 loop-i-init t c = λ whole a at sized.
-    on_way_first whole c.args.info.now a c.args.links.now.items c.add_link.new.links.items c.inside-first.result sized (c.inside-first.ensures a at)
-    (own_added c.args.info.now a _ _ _ (c.own_link.ensures a _ _ at) c.in_ok-add_link.ensures)
+    on_way_first more_links whole c.args.info.now a links-join (IsAt c.inside-first.result) c.args.links.now.items c.add_link.new.links.items sized
+    (c.inside-first.ensures a at) (own_added c.args.info.now a _ _ _ (c.own_link.ensures a _ _ at) c.in_ok-add_link.ensures)
 
 pub loop-i-preserved : goal.loop-i-preserved
+unfolding links_at
 loop-i-preserved t c = λ whole a at sized.
     let info = c.args.info.now in
     let e = (info_facts info).expr in
@@ -32,10 +33,13 @@ loop-i-preserved t c = λ whole a at sized.
       | else-follows b ↦ subst (λ x. IsAt x (if follows e n then behind else inside)) (sym b.next-is)
           (subst (λ f. IsAt c.inside-first.result (if f then behind else inside)) b.if-follows.ensures (c.inside-first.ensures a at))
     ] in
-    on_way_more whole info a c.args.links.now.items c.loop-i.links.items c.add_links.new.links.items c.loop-i.next c.if-follows.next n child lt here w
+    on_way_more more_links whole info a links-join (IsAt c.loop-i.next) (IsAt c.if-follows.next)
+    (more_links c.args.links.now.items (spots whole a (info_tree info))) c.loop-i.links.items c.add_links.new.links.items n child lt here w
     (c.in_ok-add_links.ensures whole w.around w.stands sized_child) stands
 
 pub returns : goal.returns
+unfolding links_at
 returns t c = λ whole a at sized.
-    on_way_all whole c.args.info.now a c.args.links.now.items c.loop-i.links.items c.loop-i.next c.loop-i.i
+    on_way_all more_links whole c.args.info.now a (λ l. append-nil l) (IsAt c.loop-i.next)
+    (more_links c.args.links.now.items (spots whole a (info_tree c.args.info.now))) c.loop-i.links.items c.loop-i.i
     (omega (arith, ap length c.deref-child-items.ensures.value)) (c.loop-i.invariant whole a at sized)

@@ -1,7 +1,7 @@
 use Rattle.std.proofs.Common.{◌≡◌, ◌++◌, [], ◌∙◌, ap, false, refl, rules}
 use Rattle.fancy_info.specs.Infos.{info_tree}
 use Rattle.fancy_analysis.specs.Links.{links_at}
-use Rattle.fancy_analysis.proofs.LinkNodes.{links-whole}
+use Rattle.fancy_analysis.proofs.SpotNodes.{links-whole}
 use Rattle.fancy_analysis.proofs.links.links_of.Goals as goal
 
 pub returns : goal.returns

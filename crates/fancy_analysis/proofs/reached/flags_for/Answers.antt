@@ -2,7 +2,7 @@ use Rattle.std.proofs.Common.{◌∷◌, [], ◌++◌, false, refl, ap, subst, a
 use Rattle.std.proofs.lemmas.List.{take_all}
 use Rattle.fancy_analysis.specs.declared.links.Link.{Link}
 use Rattle.fancy_analysis.specs.Reached.{HasRoom}
-use Rattle.fancy_analysis.proofs.LinkFlags.{room_none, room_more, same_one}
+use Rattle.fancy_analysis.proofs.SearchSteps.{room_none, room_more, same_one}
 use Rattle.fancy_analysis.proofs.reached.flags_for.Goals as goal
 
 pub loop-link-init : goal.loop-link-init

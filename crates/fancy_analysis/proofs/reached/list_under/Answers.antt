@@ -1,5 +1,5 @@
 use Rattle.std.proofs.Common.{◌<◌, ◌∷◌, [], ◌++◌, length, sym, ap, ◌∙◌, arith}
-use Rattle.fancy_analysis.proofs.NumberLists.{listed_at, one_more_listed}
+use Rattle.fancy_analysis.proofs.SearchSteps.{listed_at, one_more_listed}
 use Rattle.fancy_analysis.proofs.reached.list_under.Goals as goal
 
 pub returns : goal.returns

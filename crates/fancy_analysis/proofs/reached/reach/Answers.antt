@@ -1,7 +1,7 @@
 use Rattle.std.proofs.Common.{rules, ◌≡◌, ◌∷◌, [], false, true, sym, subst, arith}
 use Rattle.std.proofs.Math.ListN.{set}
 use Rattle.fancy_analysis.specs.Reached.{Reaches, flag}
-use Rattle.fancy_analysis.proofs.LinkFlags.{reaches_new}
+use Rattle.fancy_analysis.proofs.SearchSteps.{reaches_new}
 use Rattle.fancy_analysis.proofs.reached.reach.Goals as goal
 
 pub returns-in_ok-push : goal.returns-in_ok-push

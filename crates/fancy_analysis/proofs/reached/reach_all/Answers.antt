@@ -1,7 +1,7 @@
 use Rattle.std.proofs.Common.{◌<◌, ◌∷◌, [], length, take, get_or, sym, subst, arith}
 use Rattle.std.proofs.lemmas.List.{take_more}
 use Rattle.fancy_analysis.specs.Reached.{Reaches}
-use Rattle.fancy_analysis.proofs.LinkFlags.{reaches_more}
+use Rattle.fancy_analysis.proofs.SearchSteps.{reaches_more}
 use Rattle.fancy_analysis.proofs.reached.reach_all.Goals as goal
 
 pub loop-number-preserved : goal.loop-number-preserved

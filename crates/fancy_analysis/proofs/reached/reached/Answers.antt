@@ -1,9 +1,7 @@
 use Rattle.std.proofs.Common.{◌≡◌, ◌<◌, ◌∷◌, ◌++◌, [], Contains, take, drop, length, sym, ap, ◌∙◌, subst, arith}
 use Rattle.std.proofs.lemmas.List.Elements.{Contains-push}
 use Rattle.fancy_analysis.specs.Reached.{HasRoom, Reaches, listed}
-use Rattle.fancy_analysis.proofs.Flags.{flag_inside}
-use Rattle.fancy_analysis.proofs.LinkFlags.{IsReaching, reaching_done, reaching_first, reaching_next, room_kept, written_back}
-use Rattle.fancy_analysis.proofs.NumberLists.{listed_at, no_more}
+use Rattle.fancy_analysis.proofs.SearchSteps.{flag_inside, IsReaching, reaching_done, reaching_first, reaching_next, room_kept, written_back, listed_at, no_more}
 use Rattle.fancy_analysis.proofs.reached.reached.Goals as goal
 
 pub loop-number-init : goal.loop-number-init

@@ -1,6 +1,6 @@
 use Rattle.std.proofs.Common.{◌≡◌, ◌+◌, length}
 use Rattle.fancy_analysis.specs.Reached.{HasRoom, unset_count}
-use Rattle.fancy_analysis.proofs.LinkFlags.{IsReaching}
+use Rattle.fancy_analysis.proofs.SearchSteps.{IsReaching}
 use Rattle.fancy_analysis.proofs.reached.reached.Given as goal
 
 abbrev pub invariant-loop-number : goal.invariant-loop-number

@@ -3,7 +3,7 @@ use Rattle.std.proofs.lemmas.List.{take_all}
 use Rattle.std.proofs.lemmas.List.Elements.{All-more, All-weaker, Contains-get_or}
 use Rattle.fancy_analysis.specs.declared.links.Link.{Link}
 use Rattle.fancy_analysis.specs.Reached.{listed}
-use Rattle.fancy_analysis.proofs.NumberLists.{listed_none}
+use Rattle.fancy_analysis.proofs.SearchSteps.{listed_none}
 use Rattle.fancy_analysis.proofs.reached.ways.Goals as goal
 
 pub loop-link-init : goal.loop-link-init

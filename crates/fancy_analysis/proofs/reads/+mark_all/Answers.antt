@@ -1,6 +1,6 @@
 use Rattle.std.proofs.Common.{◌&&◌, ◌||◌, false, nat_lt, length, slice_index_or, ap, ◌∙◌, arith}
 use Rattle.fancy_expr.proofs.Exprs.{child_smaller}
-use Rattle.fancy_analysis.proofs.ReadNodes.{marked_more, read-all}
+use Rattle.fancy_analysis.proofs.InfoNodes.{marked_more, read-all}
 use Rattle.fancy_analysis.proofs.reads.+mark_all.Goals as goal
 
 pub mark_all-requires : goal.mark_all-requires

@@ -1,6 +1,6 @@
 use Rattle.std.proofs.Common.{◌≡◌, ℕ, ◌&&◌, ◌||◌, false, nat_lt, take, length, slice_index_or}
 use Rattle.fancy_expr.specs.Exprs.{below, exprs}
-use Rattle.fancy_analysis.proofs.ReadNodes.{read_among_each, read_here}
+use Rattle.fancy_analysis.proofs.InfoNodes.{read_among_each, read_here}
 use Rattle.fancy_analysis.proofs.reads.+mark_all.Given as goal
 
 abbrev pub decreases-mark_all : goal.decreases-mark_all

@@ -3,12 +3,11 @@ use Rattle.std.specs.List.{list_any}
 use Rattle.fancy_meaning.specs.Nodes.{nodes}
 use Rattle.fancy_meaning.specs.Options.{analysis_of}
 use Rattle.fancy_meaning.specs.WellFormed.{is_call}
-use Rattle.fancy_meaning.specs.AnalysisRefusals.{ReadsAfterCall}
 use Rattle.fancy_meaning.specs.Recursion.{IsLeftRecursive}
 use Rattle.fancy_analysis.specs.Names.{IsDescriptionOfLeast, names_of}
 use Rattle.fancy_expr.specs.Views.{parsed_of, tree_of}
 use Rattle.fancy_expr.proofs.Listed.{true_false, any-nodes}
-use Rattle.fancy_analysis.proofs.CallRefusals.{late_refused, left_refused, without_calls, that_end, never_refused}
+use Rattle.fancy_analysis.proofs.RefusalNodes.{late_refused, left_refused, without_calls, that_end, never_refused}
 use Rattle.fancy_analysis.proofs.refusals.call_refusal.Goals as goal
 
 pub returns-then-not-has_node : goal.returns-then-not-has_node
@@ -20,9 +19,7 @@ returns-then-not-has_node c = λ options quiet w.
 pub returns-then-reads_after_call : goal.returns-then-reads_after_call
 returns-then-reads_after_call c = λ options quiet w.
     let p = parsed_of c.args.tree.now in
-    let a = analysis_of p.tree options in
-    let late = (c.reads_after_call.ensures a w.analysed).0 c.if-reads_after_call.true in
-    late_refused p options (late.0, subst (λ t. ReadsAfterCall t late.0) w.root.tree late.1)
+    late_refused p options ((c.reads_after_call.ensures (analysis_of p.tree options).tree w.root.tree w.root.sized).0 c.if-reads_after_call.true)
 
 pub returns-in-Some : goal.returns-in-Some
 returns-in-Some c = λ options quiet w.
@@ -38,8 +35,7 @@ returns-then-branch c = λ options quiet w.
     let t = c.args.tree.now in
     let p = parsed_of t in
     let a = analysis_of p.tree options in
-    let no_late : (g : ℕ) → ¬ ReadsAfterCall a.tree g =
-    λ g late. (c.reads_after_call.ensures a w.analysed).1 c.if-reads_after_call.false g (subst (λ x. ReadsAfterCall x g) (sym w.root.tree) late) in
+    let no_late = (c.reads_after_call.ensures a.tree w.root.tree w.root.sized).1 c.if-reads_after_call.false in
     let no_left : (g : ℕ) → ¬ IsLeftRecursive a.tree g =
     subst (λ o. MatchOption o ((g : ℕ) → ¬ IsLeftRecursive a.tree g)
     (λ text. IsDescriptionOfLeast a.tree (names_of t.named_groups.entries) (string_bytes text)))
@@ -51,8 +47,7 @@ returns-else-branch c = λ options quiet w.
     let t = c.args.tree.now in
     let p = parsed_of t in
     let a = analysis_of p.tree options in
-    let no_late : (g : ℕ) → ¬ ReadsAfterCall a.tree g =
-    λ g late. (c.reads_after_call.ensures a w.analysed).1 c.if-reads_after_call.false g (subst (λ x. ReadsAfterCall x g) (sym w.root.tree) late) in
+    let no_late = (c.reads_after_call.ensures a.tree w.root.tree w.root.sized).1 c.if-reads_after_call.false in
     let no_left : (g : ℕ) → ¬ IsLeftRecursive a.tree g =
     subst (λ o. MatchOption o ((g : ℕ) → ¬ IsLeftRecursive a.tree g)
     (λ text. IsDescriptionOfLeast a.tree (names_of t.named_groups.entries) (string_bytes text)))

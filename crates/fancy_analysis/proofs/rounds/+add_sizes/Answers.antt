@@ -1,7 +1,8 @@
 use Rattle.std.proofs.Common.{◌≡◌, ◌<◌, length, map, get_or, arith, ap, ◌∙◌}
 use Rattle.fancy_info.specs.Infos.{info_children}
 use Rattle.fancy_info.specs.Sized.{size_of}
-use Rattle.fancy_analysis.proofs.GroupSizes.{sized_more, child_sized, sized_all}
+use Rattle.fancy_analysis.proofs.RoundSizes.{sized_more, sized_all}
+use Rattle.fancy_analysis.proofs.InfoNodes.{child_sized}
 use Rattle.fancy_analysis.proofs.rounds.+add_sizes.Goals as goal
 
 pub loop-child-preserved : goal.loop-child-preserved

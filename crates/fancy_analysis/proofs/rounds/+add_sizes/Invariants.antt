@@ -3,7 +3,7 @@ use Rattle.fancy_meaning.specs.Sizes.{Known}
 use Rattle.fancy_info.specs.Infos.{info_facts, info_size, info_children}
 use Rattle.fancy_analysis.specs.Made.{IsSized, own_size}
 use Rattle.fancy_info.specs.Sized.{size_of}
-use Rattle.fancy_analysis.proofs.GroupSizes.{sizes_in_each}
+use Rattle.fancy_analysis.proofs.RoundSizes.{sizes_in_each}
 use Rattle.fancy_analysis.proofs.rounds.+add_sizes.Given as goal
 
 abbrev pub invariant-loop-child : goal.invariant-loop-child

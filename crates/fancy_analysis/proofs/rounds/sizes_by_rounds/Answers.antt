@@ -7,7 +7,7 @@ use Rattle.fancy_expr.specs.Views.{tree_of}
 use Rattle.fancy_info.specs.Sized.{size_of}
 use Rattle.fancy_expr.proofs.Numbered.{count-numbered}
 use Rattle.fancy_analysis.specs.Rounds.{same_sizes, size_rounds}
-use Rattle.fancy_analysis.proofs.RoundCounts.{Counts, counts_all, counts_first, counts_more, counts_over, counts_same}
+use Rattle.fancy_analysis.proofs.LimitRounds.{Counts, counts_all, counts_first, counts_more, counts_over, counts_same}
 use Rattle.fancy_analysis.proofs.RoundSizes.{same_known, settled, last_round}
 use Rattle.fancy_analysis.proofs.rounds.sizes_by_rounds.Goals as goal
 

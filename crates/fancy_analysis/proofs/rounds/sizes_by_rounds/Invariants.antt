@@ -5,7 +5,7 @@ use Rattle.fancy_meaning.specs.Sizes.{after_rounds, next_round}
 use Rattle.fancy_expr.specs.Views.{tree_of}
 use Rattle.fancy_info.specs.Sized.{size_of}
 use Rattle.fancy_analysis.specs.Rounds.{same_sizes, size_rounds}
-use Rattle.fancy_analysis.proofs.RoundCounts.{Counts}
+use Rattle.fancy_analysis.proofs.LimitRounds.{Counts}
 use Rattle.fancy_analysis.proofs.rounds.sizes_by_rounds.Given as goal
 
 abbrev pub invariant-loop-round : goal.invariant-loop-round

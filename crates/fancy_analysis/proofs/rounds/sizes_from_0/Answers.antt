@@ -6,7 +6,7 @@ use Rattle.fancy_info.specs.declared.info.Info.TheViews.{out-Info}
 use Rattle.fancy_info.specs.Infos.{info_tree, info_size}
 use Rattle.fancy_analysis.specs.Made.{past_first}
 use Rattle.fancy_info.specs.Sized.{size_of}
-use Rattle.fancy_analysis.proofs.GroupSizes.{sizes_in}
+use Rattle.fancy_analysis.proofs.RoundSizes.{sizes_in}
 use Rattle.fancy_analysis.proofs.MadeNodes.{sized_here}
 use Rattle.fancy_analysis.proofs.rounds.sizes_from_0.Goals as goal
 

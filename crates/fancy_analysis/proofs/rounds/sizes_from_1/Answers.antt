@@ -2,7 +2,7 @@ use Rattle.std.proofs.Common.{◌++◌, ◌∷◌, [], map, ap, ◌∙◌}
 use Rattle.fancy_info.specs.declared.info.Info.TheViews.{out-Info}
 use Rattle.fancy_info.specs.Infos.{info_tree}
 use Rattle.fancy_info.specs.Sized.{size_of}
-use Rattle.fancy_analysis.proofs.GroupSizes.{sizes_in}
+use Rattle.fancy_analysis.proofs.RoundSizes.{sizes_in}
 use Rattle.fancy_analysis.proofs.MadeNodes.{sized_here}
 use Rattle.fancy_analysis.proofs.rounds.sizes_from_1.Goals as goal
 

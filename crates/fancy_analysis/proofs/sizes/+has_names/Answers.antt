@@ -3,7 +3,7 @@ use Rattle.fancy_expr.specs.Exprs.{below}
 use Rattle.fancy_expr.proofs.Exprs.{child_smaller}
 use Rattle.fancy_expr.proofs.Walks.{none_more, none_at_all}
 use Rattle.fancy_analysis.specs.Rounds.{names_one}
-use Rattle.fancy_analysis.proofs.NodeCounts.{any_child, any_itself}
+use Rattle.fancy_analysis.proofs.LimitRounds.{any_child, any_itself}
 use Rattle.fancy_analysis.proofs.sizes.+has_names.Goals as goal
 
 pub has_names-requires : goal.has_names-requires

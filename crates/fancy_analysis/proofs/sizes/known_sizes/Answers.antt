@@ -4,8 +4,7 @@ use Rattle.fancy_meaning.specs.Tree.{NoLook}
 use Rattle.fancy_expr.specs.Views.{tree_of}
 use Rattle.fancy_expr.proofs.Numbered.{count-numbered}
 use Rattle.fancy_analysis.specs.Rounds.{AreRounds, size_rounds}
-use Rattle.fancy_analysis.proofs.LimitRounds.{sizes_at_most}
-use Rattle.fancy_analysis.proofs.NodeCounts.{all_agree}
+use Rattle.fancy_analysis.proofs.LimitRounds.{sizes_at_most, all_agree}
 use Rattle.fancy_analysis.proofs.sizes.known_sizes.Goals as goal
 
 pub returns-then-not-has_names : goal.returns-then-not-has_names

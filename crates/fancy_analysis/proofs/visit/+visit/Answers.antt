@@ -1,9 +1,9 @@
 use Rattle.std.proofs.Common.{subst, arith}
 use Rattle.fancy_expr.specs.Exprs.{below}
 use Rattle.fancy_expr.specs.Walk.{within_inside, within_of}
-use Rattle.fancy_analysis.specs.Visited.{IsVisited}
+use Rattle.fancy_analysis.specs.Made.{IsVisited}
 use Rattle.fancy_expr.proofs.Exprs.{child_smaller}
-use Rattle.fancy_analysis.proofs.VisitedParts.{visited_more, visited_node}
+use Rattle.fancy_analysis.proofs.MadeNodes.{visited_more, visited_node}
 use Rattle.fancy_expr.proofs.Starts.{room}
 use Rattle.fancy_analysis.proofs.visit.+visit.Goals as goal
 

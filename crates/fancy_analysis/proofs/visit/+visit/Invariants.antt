@@ -1,7 +1,7 @@
 use Rattle.std.proofs.Common.{take, length}
 use Rattle.fancy_expr.specs.Exprs.{below, exprs}
 use Rattle.fancy_expr.specs.Walk.{start_inside, within_inside, within_of}
-use Rattle.fancy_analysis.proofs.VisitedParts.{AreVisited}
+use Rattle.fancy_analysis.proofs.MadeNodes.{AreVisited}
 use Rattle.fancy_analysis.proofs.visit.+visit.Given as goal
 
 abbrev pub decreases-visit : goal.decreases-visit

@@ -1,5 +1,5 @@
 use Rattle.std.proofs.Common.{refl, sym, ◌∙◌}
-use Rattle.fancy_analysis.proofs.NumberLists.{listed_at}
+use Rattle.fancy_analysis.proofs.SearchSteps.{listed_at}
 use Rattle.fancy_analysis.proofs.cycle_search.CycleSearch.drop_way.Goals as goal
 
 pub returns : goal.returns

@@ -1,6 +1,6 @@
 use Rattle.std.proofs.Common.{◌≡◌, ◌++◌, ◌∷◌, [], true, false, slice_index_or, sym, ap, ◌∙◌, subst, get_or-set_same}
 use Rattle.fancy_expr.proofs.Listed.{false_true, true_false}
-use Rattle.fancy_analysis.specs.Cycles.{IsLast, IsState}
+use Rattle.fancy_analysis.specs.Reached.{IsLast, IsState}
 use Rattle.fancy_analysis.proofs.SearchSteps.{anew, entered_first, moved, none_from}
 use Rattle.fancy_analysis.proofs.cycle_search.CycleSearch.finds_cycle.Goals as goal
 

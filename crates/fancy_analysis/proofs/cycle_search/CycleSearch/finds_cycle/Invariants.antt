@@ -1,6 +1,5 @@
 use Rattle.std.proofs.Common.{◌≡◌, true}
-use Rattle.fancy_analysis.specs.Cycles.{IsSearching, left_in}
-use Rattle.fancy_analysis.specs.Reached.{flag}
+use Rattle.fancy_analysis.specs.Reached.{IsSearching, left_in, flag}
 use Rattle.fancy_analysis.proofs.cycle_search.CycleSearch.finds_cycle.Given as goal
 
 abbrev pub invariant-loop-number : goal.invariant-loop-number

@@ -1,9 +1,8 @@
 use Rattle.std.proofs.Common.{◌<◌, ◌++◌, ◌∷◌, [], false, length, slice_index_or, Contains, sym, ap, ◌∙◌, subst, arith}
 use Rattle.std.proofs.lemmas.List.Elements.{Contains-push}
 use Rattle.fancy_expr.proofs.Listed.{false_true, true_false}
-use Rattle.fancy_analysis.specs.Cycles.{IsState}
-use Rattle.fancy_analysis.proofs.NumberLists.{listed_within}
-use Rattle.fancy_analysis.proofs.SearchSteps.{dropped, entered_on, found, left_same, less_seen, less_ways, moved, stays_set, undone_inside}
+use Rattle.fancy_analysis.specs.Reached.{IsState}
+use Rattle.fancy_analysis.proofs.SearchSteps.{listed_within, dropped, entered_on, found, left_same, less_seen, less_ways, moved, stays_set, undone_inside}
 use Rattle.fancy_analysis.proofs.cycle_search.CycleSearch.follow.Goals as goal
 
 pub returns-then-is_done : goal.returns-then-is_done

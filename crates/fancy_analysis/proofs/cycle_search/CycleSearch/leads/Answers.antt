@@ -1,6 +1,6 @@
 use Rattle.std.proofs.Common.{inl, inr, subst}
 use Rattle.fancy_expr.proofs.Listed.{false_true}
-use Rattle.fancy_analysis.specs.Cycles.{IsState}
+use Rattle.fancy_analysis.specs.Reached.{IsState}
 use Rattle.fancy_analysis.proofs.SearchSteps.{none_from, none_past}
 use Rattle.fancy_analysis.proofs.cycle_search.CycleSearch.leads.Goals as goal
 

@@ -1,8 +1,7 @@
 use Rattle.std.proofs.Common.{◌<◌, All, false, length, sym, ap, ◌∙◌, subst}
 use Rattle.std.proofs.lemmas.List.{length-replicate}
 use Rattle.std.proofs.lemmas.List.Elements.{All-filter}
-use Rattle.fancy_analysis.specs.Cycles.{IsState}
-use Rattle.fancy_analysis.specs.Reached.{AreWays}
+use Rattle.fancy_analysis.specs.Reached.{IsState, AreWays}
 use Rattle.fancy_analysis.proofs.SearchSteps.{first_state, room_all}
 use Rattle.fancy_analysis.proofs.cycle_search.CycleSearch.of.Goals as goal
 

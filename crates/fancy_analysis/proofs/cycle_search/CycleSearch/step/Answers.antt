@@ -1,6 +1,6 @@
 use Rattle.std.proofs.Common.{◌<◌, false, slice_index_or, sym, ap, ◌∙◌, subst}
 use Rattle.fancy_expr.proofs.Listed.{false_true}
-use Rattle.fancy_analysis.specs.Cycles.{IsState, left_of}
+use Rattle.fancy_analysis.specs.Reached.{IsState, left_of}
 use Rattle.fancy_analysis.proofs.SearchSteps.{left, left_same, less_path, moved}
 use Rattle.fancy_analysis.proofs.cycle_search.CycleSearch.step.Goals as goal
 

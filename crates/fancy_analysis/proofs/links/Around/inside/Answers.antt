@@ -1,7 +1,7 @@
 use Rattle.std.proofs.Common.{refl, sym, ◌∙◌}
 use Rattle.fancy_meaning.specs.Spots.{is_never}
 use Rattle.fancy_expr.specs.Views.{bound_of}
-use Rattle.fancy_analysis.proofs.EndingRules.{or_left}
+use Rattle.std.proofs.lemmas.Bool.{or_left}
 use Rattle.fancy_analysis.proofs.links.Around.inside.Goals as goal
 
 pub returns-in-Group : goal.returns-in-Group
