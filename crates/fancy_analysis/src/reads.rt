@@ -51,11 +51,7 @@ fn mark_all(expr: &Expr, reads: &mut [bool])
 pub fn no_flags(alloc: Global, count: usize) -> Result<Vec<bool>, AllocError>
     ensures { IfOk result (λ v. v.items ≡ replicate count false) }
 {
-    let mut flags = Vec::new(alloc);
-    for i in 0..count {
-        flags.push(false)?;
-    }
-    Ok(flags)
+    Ok(vec![in alloc; false; count]?)
 }
 
 /// A flag for each of so many numbers, whether the group is read.
