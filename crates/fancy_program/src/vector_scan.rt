@@ -1,9 +1,9 @@
 //! The vector scan: where in 32 bytes of a text one of a few needles stands, or a character that is not ASCII.
 
-ghost use Rattle.std.specs.Prelude.{◌≡◌, ◌<◌, ◌≤◌, ◌+◌, ℕ, IfSome, IsTrue, None, Some, false, is_some, length, map, true};
+ghost use Rattle.std.specs.Prelude.{◌≡◌, ◌<◌, ◌≤◌, ◌+◌, ℕ, IfSome, IsTrue, None, false, length, map};
 ghost use Rattle.std.specs.List.{range_with_len};
-ghost use Rattle.std.specs.Simd.Lanes.{mask_l, top};
-ghost use Rattle.fancy_program.specs.StartRuns.{AreBare, AreSingle, AreNeedlesOf, IsBare, IsSingle, MarksNeedles, is_candidate, is_hit};
+ghost use Rattle.std.specs.Simd.Lanes.{mask_l};
+ghost use Rattle.fancy_program.specs.StartRuns.{AreNeedlesOf, IsBare, IsSingle, MarksNeedles, is_candidate};
 
 use std::simd::prelude::*;
 
@@ -16,7 +16,8 @@ pub(crate) const WIDE: usize = 128;
 /// It is taken for far behind so many bytes without one: to scan so many at once in vain costs as much as two vectors.
 pub(crate) const FAR: usize = 256;
 
-/// Needles: the ASCII characters from `first` to `last`, and up to two more. 128 stands for one that is missing.
+/// Needles: the ASCII characters from `first` to `last`, and up to two more. 128 stands for one that is missing. A
+/// position is a candidate where one of them stands, or a byte that is not ASCII.
 #[derive(Clone, Copy)]
 pub(crate) struct Needles {
     first: u8,
@@ -25,18 +26,10 @@ pub(crate) struct Needles {
     third: u8,
 }
 
-/// A position is a candidate where one of the first needles stands, and after it a second one, if there are any, or a
-/// byte that is not ASCII. It is one also where such a byte stands itself.
-#[derive(Clone, Copy)]
-pub(crate) struct NeedlePair {
-    pub(crate) first: Needles,
-    pub(crate) second: Option<Needles>,
-}
-
 /// Needles of which nothing is known.
 pub(crate) const ANY: usize = 0;
 
-/// Needles of which each range is one character.
+/// Needles of which the range is one character.
 pub(crate) const BYTES: usize = 1;
 
 /// Needles that are one character.
@@ -79,11 +72,6 @@ impl Needles {
         }
     }
 
-    /// There is no needle.
-    pub(crate) fn are_none(self) -> bool {
-        self.first >= 128
-    }
-
     /// The range is one character.
     fn is_single(self) -> bool
         ensures { IsTrue result → IsSingle self }
@@ -98,20 +86,18 @@ impl Needles {
         self.second == 128 && self.third == 128
     }
 
-    /// One of the needles is common in texts, so that the second byte is worth a comparison at once.
-    pub(crate) fn are_common(self) -> bool {
-        is_common(self.first) || is_common(self.second) || is_common(self.third)
-    }
-
-    /// Lanes whose top bit is set where a needle or a byte that is not ASCII stands in the vector.
-    #[inline(always)]
-    fn hits<const KIND: usize>(self, block: u8x32) -> u8x32
-        requires lanes { length block ≡ VECTOR }
-        requires single { BYTES ≤ KIND → IsSingle self }
-        requires bare { ONE_BYTE ≤ KIND → IsBare self }
-        ensures { map (top 7) result ≡ map (is_hit self) block }
+    /// What is known of these needles, which saves comparisons: `ANY`, `BYTES` or `ONE_BYTE`.
+    pub(crate) fn kind(self) -> usize
+        ensures single { BYTES ≤ result → IsSingle self }
+        ensures bare { ONE_BYTE ≤ result → IsBare self }
     {
-        block.simd_max(self.found::<KIND>(block))
+        if !self.is_single() {
+            ANY
+        } else if self.is_bare() {
+            ONE_BYTE
+        } else {
+            BYTES
+        }
     }
 
     /// Lanes that have all bits where a needle stands in the vector, and else none. A byte that is not ASCII may have all.
@@ -135,68 +121,21 @@ impl Needles {
             & block.simd_le(u8x32::splat(self.last));
         (range | others).select(u8x32::splat(255), u8x32::splat(0))
     }
-}
 
-/// The byte is a small letter, a digit or a space, as most of many texts are.
-pub(crate) fn is_common(byte: u8) -> bool {
-    matches!(byte, b'a'..=b'z' | b'0'..=b'9' | b' ')
-}
-
-impl NeedlePair {
-    /// What is known of these needles, which saves comparisons: `ANY`, `BYTES` or `ONE_BYTE`.
-    pub(crate) fn kind(self) -> usize
-        ensures single { BYTES ≤ result → AreSingle self }
-        ensures bare { ONE_BYTE ≤ result → AreBare self }
-    {
-        if !self.are_single() {
-            ANY
-        } else if self.are_bare() {
-            ONE_BYTE
-        } else {
-            BYTES
-        }
-    }
-
-    /// Each range is one character.
-    fn are_single(self) -> bool
-        ensures { IsTrue result → AreSingle self }
-    {
-        match self.second {
-            None => self.first.is_single(),
-            Some(second) => self.first.is_single() && second.is_single(),
-        }
-    }
-
-    /// There are no needles but the ranges.
-    fn are_bare(self) -> bool
-        ensures { IsTrue result → AreBare self }
-    {
-        match self.second {
-            None => self.first.is_bare(),
-            Some(second) => self.first.is_bare() && second.is_bare(),
-        }
-    }
-
-    /// How many positions of the vector at `pos` come before the first candidate, if there is one. The byte after the
-    /// vector is read too. A candidate has `LEN` bytes, one or two, and of the needles `KIND` is known.
+    /// How many positions of the vector at `pos` come before the first candidate, if there is one. Of the needles `KIND`
+    /// is known.
     #[inline(always)]
-    pub(crate) fn first_candidate<const LEN: usize, const KIND: usize>(
-        self,
-        text: &[u8],
-        pos: usize,
-    ) -> Option<usize>
-        requires room { pos + VECTOR < length text.now }
-        requires one { LEN ≡ 1 → self.second ≡ None }
-        requires two { (LEN ≡ 1 → ⊥) → is_some self.second ≡ true }
-        requires single { BYTES ≤ KIND → AreSingle self }
-        requires bare { ONE_BYTE ≤ KIND → AreBare self }
+    pub(crate) fn first_candidate<const KIND: usize>(self, text: &[u8], pos: usize) -> Option<usize>
+        requires room { pos + VECTOR ≤ length text.now }
+        requires single { BYTES ≤ KIND → IsSingle self }
+        requires bare { ONE_BYTE ≤ KIND → IsBare self }
         ensures none { result ≡ None → (k : ℕ) → pos ≤ k → k < pos + VECTOR
             → is_candidate self text.now k ≡ false }
         ensures within { IfSome result (λ count. count ≤ VECTOR) }
         ensures before { IfSome result (λ count. (k : ℕ) → pos ≤ k → k < pos + count
             → is_candidate self text.now k ≡ false) }
     {
-        let candidates = self.candidates::<LEN, KIND>(text, pos);
+        let candidates = self.candidates::<KIND>(text, pos);
         if candidates == 0 {
             return None;
         }
@@ -205,98 +144,55 @@ impl NeedlePair {
 
     /// The first position from `pos` on that has a candidate in the next 128 bytes, or fewer bytes than that up to `end`.
     #[inline(always)]
-    pub(crate) fn past_quiet<const LEN: usize, const KIND: usize>(
-        self,
-        text: &[u8],
-        pos: usize,
-        end: usize,
-    ) -> usize
+    pub(crate) fn past_quiet<const KIND: usize>(self, text: &[u8], pos: usize, end: usize) -> usize
         requires order { pos < end }
         requires room { end ≤ length text.now }
-        requires one { LEN ≡ 1 → self.second ≡ None }
-        requires two { (LEN ≡ 1 → ⊥) → is_some self.second ≡ true }
-        requires single { BYTES ≤ KIND → AreSingle self }
-        requires bare { ONE_BYTE ≤ KIND → AreBare self }
+        requires single { BYTES ≤ KIND → IsSingle self }
+        requires bare { ONE_BYTE ≤ KIND → IsBare self }
         ensures order { pos ≤ result }
         ensures within { result < end }
         ensures quiet { (k : ℕ) → pos ≤ k → k < result → is_candidate self text.now k ≡ false }
     {
         let mut at = pos;
-        'quiet: while WIDE < end - at && self.is_quiet::<LEN, KIND>(text, at) {
+        'quiet: while WIDE < end - at && self.is_quiet::<KIND>(text, at) {
             at += WIDE;
         }
         at
     }
 
-    /// There is no candidate in the 128 bytes from `pos` on. The byte after them is read too.
+    /// There is no candidate in the 128 bytes from `pos` on.
     #[inline(always)]
-    fn is_quiet<const LEN: usize, const KIND: usize>(self, text: &[u8], pos: usize) -> bool
-        requires room { pos + WIDE < length text.now }
-        requires one { LEN ≡ 1 → self.second ≡ None }
-        requires two { (LEN ≡ 1 → ⊥) → is_some self.second ≡ true }
-        requires single { BYTES ≤ KIND → AreSingle self }
-        requires bare { ONE_BYTE ≤ KIND → AreBare self }
+    fn is_quiet<const KIND: usize>(self, text: &[u8], pos: usize) -> bool
+        requires room { pos + WIDE ≤ length text.now }
+        requires single { BYTES ≤ KIND → IsSingle self }
+        requires bare { ONE_BYTE ≤ KIND → IsBare self }
         ensures { IsTrue result → (k : ℕ) → pos ≤ k → k < pos + WIDE
             → is_candidate self text.now k ≡ false }
     {
-        let first = self.candidates::<LEN, KIND>(text, pos) == 0;
-        let second = self.candidates::<LEN, KIND>(text, pos + VECTOR) == 0;
-        let third = self.candidates::<LEN, KIND>(text, pos + 2 * VECTOR) == 0;
-        let fourth = self.candidates::<LEN, KIND>(text, pos + 3 * VECTOR) == 0;
+        let first = self.candidates::<KIND>(text, pos) == 0;
+        let second = self.candidates::<KIND>(text, pos + VECTOR) == 0;
+        let third = self.candidates::<KIND>(text, pos + 2 * VECTOR) == 0;
+        let fourth = self.candidates::<KIND>(text, pos + 3 * VECTOR) == 0;
         (first & second) & (third & fourth)
     }
 
-    /// A bit for each candidate of the vector. Each kind has a copy of its own: where LLVM joins their masks it takes
-    /// them apart bit by bit.
+    /// A bit for each candidate of the vector.
     #[inline(always)]
-    fn candidates<const LEN: usize, const KIND: usize>(self, text: &[u8], pos: usize) -> u64
-        requires room { pos + VECTOR < length text.now }
-        requires one { LEN ≡ 1 → self.second ≡ None }
-        requires two { (LEN ≡ 1 → ⊥) → is_some self.second ≡ true }
-        requires single { BYTES ≤ KIND → AreSingle self }
-        requires bare { ONE_BYTE ≤ KIND → AreBare self }
-        ensures { result ≡ mask_l (map (is_candidate self text.now) (range_with_len pos VECTOR)) }
-    {
-        if LEN == 1 {
-            self.candidates_of_one::<KIND>(text, pos)
-        } else {
-            let second = self.second.unwrap_or(self.first);
-            self.candidates_of_pair::<KIND>(second, text, pos)
-        }
-    }
-
-    /// The candidates where there are no second needles.
-    #[inline(always)]
-    fn candidates_of_one<const KIND: usize>(self, text: &[u8], pos: usize) -> u64
-        requires room { pos + VECTOR < length text.now }
-        requires single { BYTES ≤ KIND → AreSingle self }
-        requires bare { ONE_BYTE ≤ KIND → AreBare self }
-        requires none { self.second ≡ None }
+    fn candidates<const KIND: usize>(self, text: &[u8], pos: usize) -> u64
+        requires room { pos + VECTOR ≤ length text.now }
+        requires single { BYTES ≤ KIND → IsSingle self }
+        requires bare { ONE_BYTE ≤ KIND → IsBare self }
         ensures { result ≡ mask_l (map (is_candidate self text.now) (range_with_len pos VECTOR)) }
     {
         let block = u8x32::from_slice(&text[pos..]);
-        let hits = self.first.hits::<KIND>(block);
+        let hits = block.simd_max(self.found::<KIND>(block));
         hits.simd_ge(u8x32::splat(128)).to_bitmask()
     }
+}
 
-    /// The candidates where these are the second needles.
-    #[inline(always)]
-    fn candidates_of_pair<const KIND: usize>(self, second: Needles, text: &[u8], pos: usize) -> u64
-        requires room { pos + VECTOR < length text.now }
-        requires single { BYTES ≤ KIND → AreSingle self }
-        requires bare { ONE_BYTE ≤ KIND → AreBare self }
-        requires second { self.second ≡ Some second }
-        ensures { result ≡ mask_l (map (is_candidate self text.now) (range_with_len pos VECTOR)) }
-    {
-        let block = u8x32::from_slice(&text[pos..]);
-        let after = u8x32::from_slice(&text[pos + 1..]);
-        let next = second.hits::<KIND>(after);
-        let found = self.first.found::<KIND>(block);
-        let both = found
-            .simd_ge(u8x32::splat(128))
-            .select(next, u8x32::splat(0));
-        (block | both).simd_ge(u8x32::splat(128)).to_bitmask()
-    }
+/// The byte is a small letter, a digit or a space, as most of many texts are.
+fn is_common(byte: u8) -> bool {
+    matches!(byte, b'a'..=b'z' | b'0'..=b'9' | b' ')
 }
 
 /// The ASCII characters that are not in the set, where they are at most three, or a range without a common one.

@@ -2,7 +2,7 @@ use Rattle.std.proofs.Common.{◌+◌, ◌*◌, ℕ, arith}
 use Rattle.std.proofs.lemmas.Bool.{eqb-true}
 use Rattle.fancy_program.specs.StartRuns.{is_candidate}
 use Rattle.fancy_program.proofs.VectorScanLaws.{both_true, none_marked, quiet_more}
-use Rattle.fancy_program.proofs.vector_scan.NeedlePair.is_quiet.Goals as goal
+use Rattle.fancy_program.proofs.vector_scan.Needles.is_quiet.Goals as goal
 
 pub returns : goal.returns
 returns g c quiet =

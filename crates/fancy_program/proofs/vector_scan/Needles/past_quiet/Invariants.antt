@@ -1,6 +1,6 @@
 use Rattle.std.proofs.Common.{◌≡◌, ◌<◌, ◌≤◌, ◌-◌, ℕ, false}
 use Rattle.fancy_program.specs.StartRuns.{is_candidate}
-use Rattle.fancy_program.proofs.vector_scan.NeedlePair.past_quiet.Given as goal
+use Rattle.fancy_program.proofs.vector_scan.Needles.past_quiet.Given as goal
 
 abbrev pub invariant-quiet : goal.invariant-quiet
 invariant-quiet g l = record {

@@ -1,7 +1,7 @@
 use Rattle.std.proofs.Common.{arith}
 use Rattle.fancy_program.specs.StartRuns.{is_candidate}
 use Rattle.fancy_program.proofs.VectorScanLaws.{first_marked_within, none_before_marked, none_marked}
-use Rattle.fancy_program.proofs.vector_scan.NeedlePair.first_candidate.Goals as goal
+use Rattle.fancy_program.proofs.vector_scan.Needles.first_candidate.Goals as goal
 
 pub returns-then-candidates-eq0-clause-none : goal.returns-then-candidates-eq0-clause-none
 returns-then-candidates-eq0-clause-none g c none =
