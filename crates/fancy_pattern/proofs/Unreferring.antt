@@ -19,10 +19,8 @@ use Rattle.fancy_tokens.specs.declared.tokens.Opening.TheVariants as opened_by
 use Rattle.fancy_tokens.specs.declared.tokens.Quantifier.{Quantifier}
 use Rattle.fancy_tokens.specs.declared.tokens.Suffix.{Suffix}
 use Rattle.fancy_tokens.specs.declared.tokens.Suffix.TheVariants.{Turned, Possessive}
-use Rattle.fancy_tokens.specs.declared.tokens.Token as code_token
-use Rattle.fancy_tokens.specs.declared.tokens.Token.TheVariants as token
 use Rattle.fancy_tokens.specs.Tokens.{Opening, If, Token, Node, Refer, FlagsItem, Open, Placed}
-use Rattle.fancy_tokens.specs.PatternViews.{leaf_of, opening_of, token_of, kept_of, placed_of}
+use Rattle.fancy_tokens.specs.PatternViews.{leaf_of, opening_of, kept_of, placed_of}
 use Rattle.fancy_pattern.specs.Faults.{asked_by}
 use Rattle.fancy_pattern.specs.Stuck.{Within, whole, past}
 use Rattle.fancy_pattern.specs.Grammar.{Names, Takes, node_of, opening, class_of, suffixed, enclosed, is_empty, joined, alternated, SpellsAtom, node, class, opened, SpellsOpened, around, group, stopper, expression, asked, if_group, if_pattern, if_look, SpellsBodies, one_body, two_bodies, SpellsPiece, plain, quantified, SpellsPieces, no_piece, piece, SpellsBranch, branch, SpellsBars, no_bar, barred, SpellsAlternatives, branches}
@@ -75,18 +73,12 @@ opening_said : (o : code_opening.Opening) → is_some (asked_by (opening_of o)) 
 opening_said (opened_by.If r) h = absurd (true≢false h)
 opening_said o h = tt
 
-token_said : (t : code_token.Token) → names_group (token_of t) ≡ false → QuietToken (token_of t)
-token_said (token.Leaf l) h = leaf_quiet l
-token_said (token.Set letter text casei) h = ((refl, refl), tt)
-token_said (token.Refer r) h = absurd (true≢false h)
-token_said (token.Open o) h = opening_said o h
-token_said t h = tt
-
 kept_said : (k : Kept) → names_group (kept_of k) ≡ false → QuietToken (kept_of k)
 kept_said (kept.Leaf l) h = leaf_quiet l
 kept_said (kept.Set casei letter text) h = ((refl, refl), tt)
 kept_said (kept.Numbered naming number left) h = absurd (true≢false h)
-kept_said (kept.Wide w) h = token_said w.value.token h
+kept_said (kept.Refer r) h = absurd (true≢false h)
+kept_said (kept.Open o) h = opening_said o.value.opening h
 kept_said k h = tt
 
 or_none : (a b : Bool) → (a || b) ≡ false → (a ≡ false) × (b ≡ false)

@@ -3,14 +3,15 @@
 ghost use Rattle.std.specs.Prelude.{◌≡◌, List, length, map, chars, IfOk};
 ghost use Rattle.fancy_pattern.specs.AtomSpans.{AreAtomSpans, class_end, is_class_close, leaf_count, left_of, leaves_of, one_at_least, span_end, spans_from};
 ghost use Rattle.fancy_pattern.specs.Naming.{pairs_in};
-ghost use Rattle.fancy_tokens.specs.PatternViews.{kept_of, placed_of, reference_of, target_of, token_of};
+ghost use Rattle.fancy_tokens.specs.PatternViews.{kept_of, opening_of, placed_of, target_of};
+ghost use Rattle.fancy_tokens.specs.Tokens.{Open};
 
 use crate::facts::Facts;
 use crate::group_names::GroupNames;
 use crate::options::ParseOptions;
 use crate::pattern::{chars_of, tokens};
 use fancy_tokens::kept::{Kept, Placed};
-use fancy_tokens::tokens::{Opening, Target, Token};
+use fancy_tokens::tokens::{Opening, Target};
 use std::alloc::{AllocError, Global};
 
 /// An atom of a pattern, and how many leaves of the tree it becomes. A leaf is a node without nodes below it.
@@ -97,25 +98,22 @@ fn leaf_count(alloc: Global, names: &GroupNames, kept: &Kept<'_>) -> Result<usiz
         Kept::Set { .. } => Ok(1),
         Kept::Numbered { .. } => Ok(1),
         Kept::ClassOpen { .. } => Ok(1),
-        Kept::Wide(wide) => token_leaf_count(alloc, names, wide.token),
+        Kept::Refer(placed) => leaves_of(alloc, names, placed.reference.target),
+        Kept::Open(placed) => opening_leaf_count(alloc, names, placed.opening),
         _ => Ok(0),
     }
 }
 
-fn token_leaf_count(
+fn opening_leaf_count(
     alloc: Global,
     names: &GroupNames,
-    token: Token<'_>,
+    opening: Opening<'_>,
 ) -> Result<usize, AllocError>
     ensures { IfOk result (λ count. count
-        ≡ leaf_count (pairs_in names.now.pairs) (token_of token.entry)) }
+        ≡ leaf_count (pairs_in names.now.pairs) (Open (opening_of opening.entry))) }
 {
-    match token {
-        Token::Leaf(_) => Ok(1),
-        Token::Set { .. } => Ok(1),
-        Token::ClassOpen { .. } => Ok(1),
-        Token::Refer(reference) => leaves_of(alloc, names, reference.target),
-        Token::Open(Opening::If(reference)) => leaves_of(alloc, names, reference.target),
+    match opening {
+        Opening::If(reference) => leaves_of(alloc, names, reference.target),
         _ => Ok(0),
     }
 }
@@ -126,16 +124,6 @@ fn span_end(kept: &Kept<'_>, rest: &[Placed<'_>]) -> usize
 {
     match kept {
         Kept::ClassOpen { .. } => class_end(rest),
-        Kept::Wide(wide) => token_span_end(wide.token, rest),
-        _ => left_of(rest),
-    }
-}
-
-fn token_span_end(token: Token<'_>, rest: &[Placed<'_>]) -> usize
-    ensures { result ≡ span_end (token_of token.entry) (map placed_of rest.now) }
-{
-    match token {
-        Token::ClassOpen { .. } => class_end(rest),
         _ => left_of(rest),
     }
 }
@@ -167,16 +155,6 @@ fn is_class_close(kept: &Kept<'_>) -> bool
 {
     match kept {
         Kept::ClassClose => true,
-        Kept::Wide(wide) => is_close(wide.token),
-        _ => false,
-    }
-}
-
-fn is_close(token: Token<'_>) -> bool
-    ensures { result ≡ is_class_close (token_of token.entry) }
-{
-    match token {
-        Token::ClassClose => true,
         _ => false,
     }
 }

@@ -6,10 +6,10 @@ ghost use Rattle.fancy_pattern.specs.Faults.{asked_by};
 ghost use Rattle.fancy_pattern.specs.Described.{by_number, names_number, asks_number, is_group, opens_group};
 ghost use Rattle.fancy_pattern.specs.Surveyed.{names_group};
 ghost use Rattle.fancy_pattern.specs.Spelling.{has_name, opens_named};
-ghost use Rattle.fancy_tokens.specs.PatternViews.{kept_of, placed_of, token_of, opening_of, target_of};
+ghost use Rattle.fancy_tokens.specs.PatternViews.{kept_of, placed_of, opening_of, target_of};
 
 use fancy_tokens::kept::{Kept, Placed};
-use fancy_tokens::tokens::{Opening, Target, Token};
+use fancy_tokens::tokens::{Opening, Target};
 
 /// What tokens say of groups.
 #[derive(Clone, Copy)]
@@ -74,28 +74,19 @@ fn asks(opening: Opening<'_>) -> bool
     }
 }
 
-/// What a token says that is kept behind a pointer.
-fn of_token(token: Token<'_>) -> Facts
+/// What an opening parenthesis says.
+fn of_opening(opening: Opening<'_>) -> Facts
     ensures few { result.groups ≤ 1 }
-    ensures groups { result.groups ≡ if opens_group (token_of token.entry) then 1 else 0 }
-    ensures by_number { result.by_number ≡ names_number (token_of token.entry) }
-    ensures names_group { result.names_group ≡ names_group (token_of token.entry) }
-    ensures has_names { result.has_names ≡ opens_named (token_of token.entry) }
+    ensures groups { result.groups ≡ if is_group (opening_of opening.entry) then 1 else 0 }
+    ensures by_number { result.by_number ≡ asks_number (opening_of opening.entry) }
+    ensures names_group { result.names_group ≡ is_some (asked_by (opening_of opening.entry)) }
+    ensures has_names { result.has_names ≡ has_name (opening_of opening.entry) }
 {
-    match token {
-        Token::Refer(reference) => Facts {
-            groups: 0,
-            by_number: is_by_number(reference.target),
-            names_group: true,
-            has_names: false,
-        },
-        Token::Open(opening) => Facts {
-            groups: if is_group(opening) { 1 } else { 0 },
-            by_number: asks_number(opening),
-            names_group: asks(opening),
-            has_names: has_name(opening),
-        },
-        _ => nothing(),
+    Facts {
+        groups: if is_group(opening) { 1 } else { 0 },
+        by_number: asks_number(opening),
+        names_group: asks(opening),
+        has_names: has_name(opening),
     }
 }
 
@@ -112,22 +103,6 @@ fn either(a: bool, b: bool) -> bool
     ensures { result ≡ (a || b) }
 {
     a || b
-}
-
-/// Whether it is seen at once that a token says nothing of groups.
-#[inline(always)]
-fn is_silent(kept: &Kept<'_>) -> bool
-    ensures groups { result ≡ true → opens_group (kept_of kept.now) ≡ false }
-    ensures by_number { result ≡ true → names_number (kept_of kept.now) ≡ false }
-    ensures names_group { result ≡ true → names_group (kept_of kept.now) ≡ false }
-    ensures has_names { result ≡ true → opens_named (kept_of kept.now) ≡ false }
-{
-    match kept {
-        Kept::Group(_) => false,
-        Kept::Numbered { .. } => false,
-        Kept::Wide(_) => false,
-        _ => true,
-    }
 }
 
 impl Facts {
@@ -171,7 +146,12 @@ impl Facts {
                 names_group: true,
                 ..self
             },
-            Kept::Wide(wide) => self.plus(of_token(wide.token)),
+            Kept::Refer(placed) => Facts {
+                by_number: either(is_by_number(placed.reference.target), self.by_number),
+                names_group: true,
+                ..self
+            },
+            Kept::Open(placed) => self.plus(of_opening(placed.opening)),
             _ => self,
         }
     }
@@ -189,9 +169,6 @@ impl Facts {
     {
         let mut facts = nothing();
         for placed in tokens {
-            if is_silent(&placed.kept) {
-                continue;
-            }
             facts = facts.with_token(&placed.kept);
         }
         facts

@@ -16,7 +16,7 @@ use crate::classes::{class_char_at, class_item_at};
 use crate::error::fault_at;
 use crate::escapes::{escape_at, leaf_escape_at, set_escape_at};
 use crate::groups::opening_at;
-use crate::kept::narrow_quantifier;
+use crate::kept::kept_quantifier;
 use crate::quantifiers::counts_at;
 use fancy_expr::expr::Assertion;
 use fancy_expr::well_formed::MOST_GROUPS;
@@ -268,7 +268,7 @@ fn kept_brace_at<'a>(flags: Flags, after: &'a [char]) -> Option<(Kept<'a>, &'a [
 {
     match counts_at(after, flags.ignore_whitespace) {
         Some((counts, rest)) => match counts {
-            Ok(quantifier) => Some((narrow_quantifier(quantifier, !flags.swap_greed), rest)),
+            Ok(quantifier) => Some((kept_quantifier(quantifier, !flags.swap_greed), rest)),
             Err(_) => None,
         },
         None => Some((Kept::Leaf(literal_leaf(flags, '{')), after)),

@@ -1,14 +1,12 @@
-//! Tokens as they are kept: most in a few bytes, and those that are wider behind a pointer.
+//! Tokens as they are kept.
 
-ghost use Rattle.std.specs.Prelude.{◌≡◌, IfOk, IfSome};
+ghost use Rattle.std.specs.Prelude.{◌≡◌, IfOk};
 ghost use Rattle.fancy_tokens.specs.PatternViews.{kept_of, token_of, opening_of, reference_of, piece_text};
 ghost use Rattle.fancy_tokens.specs.Tokens as plain;
 
 use crate::characters::byte_count;
-use fancy_tokens::kept::{Kept, Wide};
-use fancy_tokens::tokens::{
-    ClassPiece, Enclosing, Leaf, Naming, Opening, Quantifier, Reference, Target, Token,
-};
+use fancy_tokens::kept::{Kept, PlacedOpening, PlacedReference};
+use fancy_tokens::tokens::{ClassPiece, Opening, Quantifier, Reference, Target, Token};
 use std::alloc::{AllocError, Global};
 
 /// How far the bytes of a pattern were counted: what was left at the byte `at`.
@@ -28,38 +26,60 @@ impl<'a> Counted<'a> {
     }
 }
 
-/// A token that begins at the byte `at`, behind a pointer.
+/// What names a group and begins at the byte `at`, behind a pointer.
 #[inline(never)]
-fn made_wide<'a>(alloc: Global, at: usize, token: Token<'a>) -> Result<Kept<'a>, AllocError>
-    ensures { IfOk result (λ kept. kept_of kept ≡ token_of token.entry) }
+fn boxed_reference<'a>(
+    alloc: Global,
+    at: usize,
+    reference: Reference<'a>,
+) -> Result<Kept<'a>, AllocError>
+    ensures { IfOk result (λ kept. kept_of kept ≡ plain.Refer (reference_of reference.entry)) }
 {
-    Ok(Kept::Wide(Box::new(alloc, Wide { token, at })?))
+    Ok(Kept::Refer(Box::new(alloc, PlacedReference { reference, at })?))
 }
 
-fn narrow_reference<'a>(reference: Reference<'a>) -> Option<Kept<'a>>
-    ensures { IfSome result (λ kept. kept_of kept ≡ plain.Refer (reference_of reference.entry)) }
+/// What an opening parenthesis at the byte `at` begins, behind a pointer.
+#[inline(never)]
+fn boxed_opening<'a>(alloc: Global, at: usize, opening: Opening<'a>) -> Result<Kept<'a>, AllocError>
+    ensures { IfOk result (λ kept. kept_of kept ≡ plain.Open (opening_of opening.entry)) }
+{
+    Ok(Kept::Open(Box::new(alloc, PlacedOpening { opening, at })?))
+}
+
+fn kept_reference<'a>(
+    alloc: Global,
+    counted: &mut Counted<'a>,
+    rest: &'a [char],
+    reference: Reference<'a>,
+) -> Result<Kept<'a>, AllocError>
+    ensures { IfOk result (λ kept. kept_of kept ≡ plain.Refer (reference_of reference.entry)) }
 {
     match (reference.target, reference.level) {
-        (Target::Number(number), None) => Some(Kept::Numbered {
+        (Target::Number(number), None) => Ok(Kept::Numbered {
             naming: reference.naming,
             number,
             left: reference.left,
         }),
-        _ => None,
+        _ => boxed_reference(alloc, counted.byte(rest), reference),
     }
 }
 
-fn narrow_opening<'a>(opening: Opening<'a>) -> Option<Kept<'a>>
-    ensures { IfSome result (λ kept. kept_of kept ≡ plain.Open (opening_of opening.entry)) }
+fn kept_opening<'a>(
+    alloc: Global,
+    counted: &mut Counted<'a>,
+    rest: &'a [char],
+    opening: Opening<'a>,
+) -> Result<Kept<'a>, AllocError>
+    ensures { IfOk result (λ kept. kept_of kept ≡ plain.Open (opening_of opening.entry)) }
 {
     match opening {
-        Opening::Enclosing(enclosing) => Some(Kept::Enclosing(enclosing)),
-        Opening::Group { number, name: None } => Some(Kept::Group(number)),
-        _ => None,
+        Opening::Enclosing(enclosing) => Ok(Kept::Enclosing(enclosing)),
+        Opening::Group { number, name: None } => Ok(Kept::Group(number)),
+        _ => boxed_opening(alloc, counted.byte(rest), opening),
     }
 }
 
-pub(crate) fn narrow_quantifier<'a>(quantifier: Quantifier, greedy: bool) -> Kept<'a>
+pub(crate) fn kept_quantifier<'a>(quantifier: Quantifier, greedy: bool) -> Kept<'a>
     ensures { kept_of result ≡ plain.Quantified quantifier greedy }
 {
     match quantifier {
@@ -70,44 +90,17 @@ pub(crate) fn narrow_quantifier<'a>(quantifier: Quantifier, greedy: bool) -> Kep
     }
 }
 
-fn narrow_piece<'a>(piece: ClassPiece<'a>) -> Option<Kept<'a>>
-    ensures { IfSome result (λ kept. kept_of kept ≡ plain.ClassText (piece_text piece.entry)) }
+fn kept_piece<'a>(piece: ClassPiece<'a>) -> Kept<'a>
+    ensures { kept_of result ≡ plain.ClassText (piece_text piece.entry) }
 {
     match piece {
-        ClassPiece::Char(c) => Some(Kept::ClassChar(c)),
-        ClassPiece::Escaped(c) => Some(Kept::ClassEscaped(c)),
-        ClassPiece::Code(c) => Some(Kept::ClassCode(c)),
-        ClassPiece::Set { letter, text } => Some(Kept::ClassSet { letter, text }),
-        _ => None,
-    }
-}
-
-/// A token as it is kept, unless it is wider.
-#[inline(always)]
-fn narrow<'a>(token: Token<'a>) -> Option<Kept<'a>>
-    ensures { IfSome result (λ kept. kept_of kept ≡ token_of token.entry) }
-{
-    match token {
-        Token::Leaf(leaf) => Some(Kept::Leaf(leaf)),
-        Token::Set {
-            letter,
-            text,
-            casei,
-        } => Some(Kept::Set {
-            letter,
-            text,
-            casei,
-        }),
-        Token::Refer(reference) => narrow_reference(reference),
-        Token::Flags => Some(Kept::Flags),
-        Token::Open(opening) => narrow_opening(opening),
-        Token::Bar => Some(Kept::Bar),
-        Token::Close => Some(Kept::Close),
-        Token::Quantifier { quantifier, greedy } => Some(narrow_quantifier(quantifier, greedy)),
-        Token::ClassOpen { casei } => Some(Kept::ClassOpen { casei }),
-        Token::ClassPiece(piece) => narrow_piece(piece),
-        Token::ClassClose => Some(Kept::ClassClose),
-        Token::Broken(_) => None,
+        ClassPiece::Char(c) => Kept::ClassChar(c),
+        ClassPiece::Escaped(c) => Kept::ClassEscaped(c),
+        ClassPiece::Code(c) => Kept::ClassCode(c),
+        ClassPiece::Set { letter, text } => Kept::ClassSet { letter, text },
+        ClassPiece::HexDigits { negated } => Kept::ClassHexDigits { negated },
+        ClassPiece::Backspace => Kept::ClassBackspace,
+        ClassPiece::Escape => Kept::ClassEscape,
     }
 }
 
@@ -121,8 +114,26 @@ pub(crate) fn keep<'a>(
 ) -> Result<Kept<'a>, AllocError>
     ensures { IfOk result (λ kept. kept_of kept ≡ token_of token.entry) }
 {
-    match narrow(token) {
-        Some(kept) => Ok(kept),
-        None => made_wide(alloc, counted.byte(rest), token),
+    match token {
+        Token::Leaf(leaf) => Ok(Kept::Leaf(leaf)),
+        Token::Set {
+            letter,
+            text,
+            casei,
+        } => Ok(Kept::Set {
+            letter,
+            text,
+            casei,
+        }),
+        Token::Refer(reference) => kept_reference(alloc, counted, rest, reference),
+        Token::Flags => Ok(Kept::Flags),
+        Token::Open(opening) => kept_opening(alloc, counted, rest, opening),
+        Token::Bar => Ok(Kept::Bar),
+        Token::Close => Ok(Kept::Close),
+        Token::Quantifier { quantifier, greedy } => Ok(kept_quantifier(quantifier, greedy)),
+        Token::ClassOpen { casei } => Ok(Kept::ClassOpen { casei }),
+        Token::ClassPiece(piece) => Ok(kept_piece(piece)),
+        Token::ClassClose => Ok(Kept::ClassClose),
+        Token::Broken(kind) => Ok(Kept::Broken(kind)),
     }
 }

@@ -11,7 +11,7 @@ use fancy_tokens::flags::Flags;
 use fancy_tokens::kept::{Kept, Placed};
 use fancy_tokens::lexing::{ClassPlace, Head, Lexing};
 use fancy_tokens::nesting::{behind_token, enter};
-use fancy_tokens::tokens::{Opening, Token};
+use fancy_tokens::tokens::Opening;
 use std::alloc::{AllocError, Global};
 
 /// What is known when a pattern has been read up to some character.
@@ -76,9 +76,7 @@ impl<'a> Lexer<'a> {
     fn break_off(&mut self, fault: Fault) -> Result<bool, AllocError>
         ensures { IfOk result (λ more. (more ≡ false) × Pushes (broken fault) self.old self.new) }
     {
-        let token = Token::Broken(fault.kind);
-        let kept = keep(self.alloc, &mut self.counted, self.rest, token)?;
-        self.push(fault.left, kept)?;
+        self.push(fault.left, Kept::Broken(fault.kind))?;
         Ok(false)
     }
 

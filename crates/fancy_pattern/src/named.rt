@@ -5,10 +5,10 @@ ghost use Rattle.std.specs.Option.{option_map};
 ghost use Rattle.std.specs.List.{list_any};
 ghost use Rattle.fancy_pattern.specs.Spelling.{opens_named};
 ghost use Rattle.fancy_pattern.specs.Naming.{numbers_of, numbers_in, pairs_in, named_in, named_of, named_by, named_opening};
-ghost use Rattle.fancy_tokens.specs.PatternViews.{kept_of, placed_of, token_of, opening_of};
+ghost use Rattle.fancy_tokens.specs.PatternViews.{kept_of, placed_of, opening_of};
 
 use fancy_tokens::kept::{Kept, Placed};
-use fancy_tokens::tokens::{Opening, Token};
+use fancy_tokens::tokens::Opening;
 use std::alloc::{AllocError, Global};
 use std::collections::BTreeMap;
 
@@ -28,16 +28,7 @@ fn named_by<'a>(kept: &Kept<'a>) -> Option<(&'a [char], usize)>
     ensures { option_map (λ p. (p.0.now, p.1)) result ≡ named_by (kept_of kept.now) }
 {
     match kept {
-        Kept::Wide(wide) => named_by_token(wide.token),
-        _ => None,
-    }
-}
-
-fn named_by_token<'a>(token: Token<'a>) -> Option<(&'a [char], usize)>
-    ensures { option_map (λ p. (p.0.now, p.1)) result ≡ named_by (token_of token.entry) }
-{
-    match token {
-        Token::Open(opening) => named_opening(opening),
+        Kept::Open(placed) => named_opening(placed.opening),
         _ => None,
     }
 }

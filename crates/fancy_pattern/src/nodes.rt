@@ -13,7 +13,7 @@ ghost use Rattle.fancy_tokens.specs.declared.tokens.Naming.TheVariants as naming
 ghost use Rattle.fancy_expr.specs.Each.{Each};
 ghost use Rattle.fancy_pattern.specs.Reading.{OneCharEach};
 ghost use Rattle.fancy_pattern.specs.Stuck.{NoNode, NoAtom};
-ghost use Rattle.fancy_tokens.specs.PatternViews.{leaf_of, hex_class, kept_of, token_of, reference_of};
+ghost use Rattle.fancy_tokens.specs.PatternViews.{leaf_of, hex_class, kept_of, reference_of};
 
 use crate::class_text::push_escape;
 use crate::failure::Failure;
@@ -22,7 +22,7 @@ use crate::named::text_of;
 use fancy_expr::expr::{Absent, AstNode, CaptureGroupTarget, Expr};
 use fancy_tokens::error::{ErrorKind, Fault};
 use fancy_tokens::kept::Kept;
-use fancy_tokens::tokens::{Enclosing, Leaf, Naming, Quantifier, Reference, Suffix, Target, Token};
+use fancy_tokens::tokens::{Enclosing, Leaf, Naming, Quantifier, Reference, Suffix, Target};
 use std::alloc::{AllocError, Global};
 
 /// So many groups may have a name that is referred to.
@@ -407,12 +407,11 @@ pub(crate) fn suffixed(
     }
 }
 
-/// The node of an atom that is one token; none for any other token. `place` is the byte where it stands.
+/// The node of an atom that is one token; none for any other token.
 pub(crate) fn node(
     alloc: Global,
     names: &GroupNames,
     kept: &Kept<'_>,
-    place: usize,
 ) -> Result<Option<Expr>, Failure>
     ensures made { IfOk result (λ found. option_map tree_of found
         ≡ grammar.node_of (pairs_in names.now.pairs) (kept_of kept.now)) }
@@ -428,33 +427,8 @@ pub(crate) fn node(
             casei,
         } => Ok(Some(set_node(alloc, *letter, text, *casei)?)),
         Kept::Numbered { naming, number, .. } => Ok(Some(named(*naming, None, *number))),
+        Kept::Refer(placed) => Ok(Some(reference(alloc, names, placed.reference, placed.at)?)),
         Kept::Flags => Ok(Some(Expr::Empty)),
-        Kept::Wide(wide) => token_node(alloc, names, wide.token, place),
-        _ => Ok(None),
-    }
-}
-
-fn token_node(
-    alloc: Global,
-    names: &GroupNames,
-    token: Token<'_>,
-    place: usize,
-) -> Result<Option<Expr>, Failure>
-    ensures made { IfOk result (λ found. option_map tree_of found
-        ≡ grammar.node_of (pairs_in names.now.pairs) (token_of token.entry)) }
-    ensures one_char { IfOk result (λ found. IfSome found OneCharEach) }
-    ensures fails { IfErr result (NoAtom
-        (pairs_in names.now.pairs) (token_of token.entry)) }
-{
-    match token {
-        Token::Leaf(found) => Ok(Some(leaf(alloc, found)?)),
-        Token::Set {
-            letter,
-            text,
-            casei,
-        } => Ok(Some(set_node(alloc, letter, text, casei)?)),
-        Token::Refer(found) => Ok(Some(reference(alloc, names, found, place)?)),
-        Token::Flags => Ok(Some(Expr::Empty)),
         _ => Ok(None),
     }
 }

@@ -1,17 +1,16 @@
 //! `parse_tree`: lexer, reader and survey, one after the other.
 
 ghost use Rattle.std.specs.Prelude.{◌≡◌, ◌<◌, ◌^◌, [], List, false, length, map, chars, encode_utf8_all, IfOk, IfErr, MatchResult};
-ghost use Rattle.std.specs.List.{list_any};
 ghost use Rattle.fancy_meaning.specs.Tree.{Tree};
 ghost use Rattle.fancy_expr.specs.Sound.{IsWellFormedTree};
 ghost use Rattle.fancy_expr.specs.Views.{tree_of};
 ghost use Rattle.fancy_pattern.specs.Described.{first_past, up_to, IsDescribed};
 ghost use Rattle.fancy_pattern.specs.Surveyed.{AreFacts, IsUnreferring, IsSurveyOf};
 ghost use Rattle.fancy_pattern.specs.Naming.{pairs_in, named_in};
-ghost use Rattle.fancy_tokens.specs.PatternViews.{kept_of, placed_of, token_of, opening_of};
+ghost use Rattle.fancy_tokens.specs.PatternViews.{placed_of};
 ghost use Rattle.fancy_pattern.specs.Texts.{Text};
 ghost use Rattle.fancy_tokens.specs.Tokens as plain;
-ghost use Rattle.fancy_pattern.specs.Spelling.{opens_named, has_name, ignores, byte_at, HasTokens, Spells, IsSpelled, IsTreeOf, PatternFails, IsError};
+ghost use Rattle.fancy_pattern.specs.Spelling.{ignores, byte_at, HasTokens, Spells, IsSpelled, IsTreeOf, PatternFails, IsError};
 ghost use Rattle.fancy_pattern.specs.declared.error.PatternError.TheVariants.{Parse, Memory};
 ghost use Rattle.fancy_pattern.specs.declared.options.ParseOptions.{ParseOptions};
 
@@ -26,8 +25,7 @@ use crate::reader::Reader;
 use crate::survey::Survey;
 use fancy_expr::expr::{Expr, ExprTree};
 use fancy_tokens::error::Fault;
-use fancy_tokens::kept::{Kept, Placed};
-use fancy_tokens::tokens::{Opening, Token};
+use fancy_tokens::kept::Placed;
 use std::alloc::{AllocError, Global};
 use std::collections::BTreeSet;
 
@@ -104,7 +102,7 @@ fn placed_fault(chars: &[char], fault: Fault) -> PatternError
 fn ignores(options: ParseOptions, tokens: &[Placed<'_>]) -> bool
     ensures { result ≡ ignores options (map placed_of tokens.now) }
 {
-    options.ignore_numbered_groups_when_named_groups_exist && has_names(tokens)
+    options.ignore_numbered_groups_when_named_groups_exist && Facts::of(tokens).has_names
 }
 
 /// The tokens of a pattern, and whether plain groups capture nothing.
@@ -121,45 +119,6 @@ pub(crate) fn tokens<'a>(
     } else {
         Ok((tokens, false))
     }
-}
-
-fn has_name(opening: Opening<'_>) -> bool
-    ensures { result ≡ has_name (opening_of opening.entry) }
-{
-    match opening {
-        Opening::Group { name, .. } => name.is_some(),
-        _ => false,
-    }
-}
-
-fn opens_named(kept: &Kept<'_>) -> bool
-    ensures { result ≡ opens_named (kept_of kept.now) }
-{
-    match kept {
-        Kept::Wide(wide) => token_opens_named(wide.token),
-        _ => false,
-    }
-}
-
-fn token_opens_named(token: Token<'_>) -> bool
-    ensures { result ≡ opens_named (token_of token.entry) }
-{
-    match token {
-        Token::Open(opening) => has_name(opening),
-        _ => false,
-    }
-}
-
-/// Whether a group has a name.
-fn has_names(tokens: &[Placed<'_>]) -> bool
-    ensures { result ≡ list_any (λ p. opens_named p.token) (map placed_of tokens.now) }
-{
-    for placed in tokens {
-        if opens_named(&placed.kept) {
-            return true;
-        }
-    }
-    false
 }
 
 fn tree_of_chars(alloc: Global, chars: &[char], options: ParseOptions) -> Result<ExprTree, Failure>

@@ -4,11 +4,11 @@ ghost use Rattle.std.specs.Prelude.{◌≡◌, ℕ, ◌+◌, ◌<◌, ◌≤◌,
 ghost use Rattle.std.specs.Option.{option_map};
 ghost use Rattle.fancy_expr.specs.declared.expr.Expr as code;
 ghost use Rattle.fancy_expr.specs.Views.{tree_of};
-ghost use Rattle.fancy_pattern.specs.Grammar.{Names, is_at, is_branch_end, bar, closing, quantifier as quantifier_of, suffix, suffix_of, opening, class_open, class_text, class_close, gives_some, first_gives, node_of, Takes, SpellsClass, SpellsSuffix, SpellsAtom, SpellsOpened, SpellsBodies, SpellsPiece, SpellsBranch, SpellsBars, SpellsAlternatives};
+ghost use Rattle.fancy_pattern.specs.Grammar.{Names, is_at, is_branch_end, bar, closing, quantifier as quantifier_of, suffix, opening, class_open, class_text, class_close, gives_some, first_gives, node_of, Takes, SpellsClass, SpellsSuffix, SpellsAtom, SpellsOpened, SpellsBodies, SpellsPiece, SpellsBranch, SpellsBars, SpellsAlternatives};
 ghost use Rattle.fancy_pattern.specs.Faults.{Tells};
 ghost use Rattle.fancy_pattern.specs.Stuck.{is_end, is_calm, anything, Fails, FailsOpened, IsMisfit};
 ghost use Rattle.fancy_pattern.specs.Naming.{pairs_in};
-ghost use Rattle.fancy_tokens.specs.PatternViews.{kept_of, token_of, opening_of, reference_of, piece_text};
+ghost use Rattle.fancy_tokens.specs.PatternViews.{kept_of, opening_of, reference_of, piece_text};
 ghost use Rattle.fancy_pattern.specs.Reading.{OneCharEach, point_of, next_token, Skips, ReadsTree, Adds, Pushes, PushesRow, SpellsSome, Boxes, SpellsLast, SpellsMore, SpellsRest, SpellsNode, Quantifies};
 ghost use Rattle.fancy_meaning.specs.Tree.{Tree, Literal};
 ghost use Rattle.fancy_tokens.specs.Tokens.{AbsentBar, Around, Group, If, Node};
@@ -25,9 +25,7 @@ use crate::nodes::{boxed_reference, node};
 use fancy_expr::expr::Expr;
 use fancy_tokens::error::{ErrorKind, Fault};
 use fancy_tokens::kept::{Kept, Placed};
-use fancy_tokens::tokens::{
-    ClassPiece, Enclosing, Leaf, Opening, Quantifier, Reference, Suffix, Token,
-};
+use fancy_tokens::tokens::{ClassPiece, Enclosing, Leaf, Opening, Quantifier, Reference, Suffix};
 use std::alloc::{AllocError, Global};
 
 /// What is left to read.
@@ -42,16 +40,6 @@ fn is_bar(kept: &Kept<'_>) -> bool
 {
     match kept {
         Kept::Bar => true,
-        Kept::Wide(wide) => is_bar_token(wide.token),
-        _ => false,
-    }
-}
-
-fn is_bar_token(token: Token<'_>) -> bool
-    ensures { result ≡ gives_some (bar (token_of token.entry)) }
-{
-    match token {
-        Token::Bar => true,
         _ => false,
     }
 }
@@ -61,16 +49,6 @@ fn is_close(kept: &Kept<'_>) -> bool
 {
     match kept {
         Kept::Close => true,
-        Kept::Wide(wide) => is_close_token(wide.token),
-        _ => false,
-    }
-}
-
-fn is_close_token(token: Token<'_>) -> bool
-    ensures { result ≡ gives_some (closing (token_of token.entry)) }
-{
-    match token {
-        Token::Close => true,
         _ => false,
     }
 }
@@ -80,16 +58,6 @@ fn is_class_close(kept: &Kept<'_>) -> bool
 {
     match kept {
         Kept::ClassClose => true,
-        Kept::Wide(wide) => is_class_close_token(wide.token),
-        _ => false,
-    }
-}
-
-fn is_class_close_token(token: Token<'_>) -> bool
-    ensures { result ≡ gives_some (class_close (token_of token.entry)) }
-{
-    match token {
-        Token::ClassClose => true,
         _ => false,
     }
 }
@@ -103,16 +71,7 @@ fn as_opening<'a>(kept: &Kept<'a>) -> Option<Opening<'a>>
             number: *number,
             name: None,
         }),
-        Kept::Wide(wide) => as_opening_token(wide.token),
-        _ => None,
-    }
-}
-
-fn as_opening_token<'a>(token: Token<'a>) -> Option<Opening<'a>>
-    ensures { option_map opening_of result ≡ opening (token_of token.entry) }
-{
-    match token {
-        Token::Open(opening) => Some(opening),
+        Kept::Open(placed) => Some(placed.opening),
         _ => None,
     }
 }
@@ -142,16 +101,6 @@ fn as_class_open(kept: &Kept<'_>) -> Option<bool>
 {
     match kept {
         Kept::ClassOpen { casei } => Some(*casei),
-        Kept::Wide(wide) => as_class_open_token(wide.token),
-        _ => None,
-    }
-}
-
-fn as_class_open_token(token: Token<'_>) -> Option<bool>
-    ensures { result ≡ class_open (token_of token.entry) }
-{
-    match token {
-        Token::ClassOpen { casei } => Some(casei),
         _ => None,
     }
 }
@@ -167,16 +116,9 @@ fn as_class_piece<'a>(kept: &Kept<'a>) -> Option<ClassPiece<'a>>
             letter: *letter,
             text,
         }),
-        Kept::Wide(wide) => as_class_piece_token(wide.token),
-        _ => None,
-    }
-}
-
-fn as_class_piece_token<'a>(token: Token<'a>) -> Option<ClassPiece<'a>>
-    ensures { option_map piece_text result ≡ class_text (token_of token.entry) }
-{
-    match token {
-        Token::ClassPiece(piece) => Some(piece),
+        Kept::ClassHexDigits { negated } => Some(ClassPiece::HexDigits { negated: *negated }),
+        Kept::ClassBackspace => Some(ClassPiece::Backspace),
+        Kept::ClassEscape => Some(ClassPiece::Escape),
         _ => None,
     }
 }
@@ -189,16 +131,6 @@ fn as_quantifier(kept: &Kept<'_>) -> Option<(Quantifier, bool)>
         Kept::Plus { greedy } => Some((Quantifier::Plus, *greedy)),
         Kept::Question { greedy } => Some((Quantifier::Question, *greedy)),
         Kept::Counts { lo, hi, greedy } => Some((Quantifier::Counts { lo: *lo, hi: *hi }, *greedy)),
-        Kept::Wide(wide) => as_quantifier_token(wide.token),
-        _ => None,
-    }
-}
-
-fn as_quantifier_token(token: Token<'_>) -> Option<(Quantifier, bool)>
-    ensures { result ≡ quantifier_of (token_of token.entry) }
-{
-    match token {
-        Token::Quantifier { quantifier, greedy } => Some((quantifier, greedy)),
         _ => None,
     }
 }
@@ -209,26 +141,6 @@ fn as_suffix(kept: &Kept<'_>) -> Option<Suffix>
     match kept {
         Kept::Plus { .. } => Some(Suffix::Possessive),
         Kept::Question { .. } => Some(Suffix::Turned),
-        Kept::Wide(wide) => as_suffix_token(wide.token),
-        _ => None,
-    }
-}
-
-fn as_suffix_token(token: Token<'_>) -> Option<Suffix>
-    ensures { result ≡ suffix (token_of token.entry) }
-{
-    match token {
-        Token::Quantifier { quantifier, .. } => suffix_of(quantifier),
-        _ => None,
-    }
-}
-
-fn suffix_of(quantifier: Quantifier) -> Option<Suffix>
-    ensures { result ≡ suffix_of quantifier }
-{
-    match quantifier {
-        Quantifier::Question => Some(Suffix::Turned),
-        Quantifier::Plus => Some(Suffix::Possessive),
         _ => None,
     }
 }
@@ -248,24 +160,15 @@ fn kind_of(kept: &Kept<'_>, kind: ErrorKind) -> ErrorKind
     ensures { Tells (kept_of kept.now) result }
 {
     match kept {
-        Kept::Wide(wide) => kind_of_token(wide.token, kind),
+        Kept::Broken(found) => *found,
         _ => kind,
     }
 }
 
-fn kind_of_token(token: Token<'_>, kind: ErrorKind) -> ErrorKind
-    ensures { Tells (token_of token.entry) result }
-{
-    match token {
-        Token::Broken(found) => found,
-        _ => kind,
-    }
-}
-
-/// The byte where a token begins that is kept behind a pointer, as one is whose group may be missing; else 0.
+/// The byte where a condition begins that asks for a group, which may be missing; else 0.
 fn place_of(kept: &Kept<'_>) -> usize {
     match kept {
-        Kept::Wide(wide) => wide.at,
+        Kept::Open(placed) => placed.at,
         _ => 0,
     }
 }
@@ -297,7 +200,7 @@ impl<'r, 'a> Reader<'r, 'a> {
         }
     }
 
-    /// The byte where the next token begins, if it names a group.
+    /// The byte where the next token begins, if it asks for a group.
     fn place(&self) -> usize {
         match self.rest.first() {
             Some(placed) => place_of(&placed.kept),
@@ -735,11 +638,10 @@ impl<'r, 'a> Reader<'r, 'a> {
         ensures shorter { IfOk result (λ u. length self.new.rest.now + 1
             ≤ length self.old.rest.now) }
     {
-        let place = self.place();
         let Some(kept) = self.next() else {
             return Err(self.misfit(ErrorKind::TargetNotRepeatable));
         };
-        match node(self.alloc, names, kept, place)? {
+        match node(self.alloc, names, kept)? {
             Some(found) => {
                 nodes.push(found)?;
                 self.skip();

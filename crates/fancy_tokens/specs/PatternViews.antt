@@ -119,9 +119,11 @@ kept_of (kept.Leaf l) = plain.Node (leaf_of l)
 kept_of (kept.Set casei letter text) = plain.Node (tree.Delegate (encode_utf8_all (92 ∷ letter ∷ text.now)) casei)
 kept_of (kept.Numbered naming number left) =
     plain.Refer (record { naming = naming; target = plain.Number number; level = None; left = left })
+kept_of (kept.Refer r) = plain.Refer (reference_of r.value.reference)
 kept_of kept.Flags = plain.FlagsItem
 kept_of (kept.Enclosing e) = plain.Open (plain.Around e)
 kept_of (kept.Group number) = plain.Open (plain.Group number None)
+kept_of (kept.Open o) = plain.Open (opening_of o.value.opening)
 kept_of kept.Bar = plain.Bar
 kept_of kept.Close = plain.Close
 kept_of (kept.Star greedy) = plain.Quantified quantifier.Star greedy
@@ -133,8 +135,11 @@ kept_of (kept.ClassChar c) = plain.ClassText (piece_text (piece.Char c))
 kept_of (kept.ClassEscaped c) = plain.ClassText (piece_text (piece.Escaped c))
 kept_of (kept.ClassCode c) = plain.ClassText (piece_text (piece.Code c))
 kept_of (kept.ClassSet letter text) = plain.ClassText (piece_text (piece.Set letter text))
+kept_of (kept.ClassHexDigits negated) = plain.ClassText (piece_text (piece.HexDigits negated))
+kept_of kept.ClassBackspace = plain.ClassText (piece_text piece.Backspace)
+kept_of kept.ClassEscape = plain.ClassText (piece_text piece.Escape)
 kept_of kept.ClassClose = plain.ClassClose
-kept_of (kept.Wide w) = token_of w.value.token
+kept_of (kept.Broken kind) = plain.Broken kind
 
 abbrev pub placed_of : code_placed.Placed → plain.Placed
 placed_of p = record { left = p.left; token = kept_of p.kept }

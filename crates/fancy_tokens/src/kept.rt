@@ -1,12 +1,19 @@
-//! Tokens as they are kept: most in a few bytes, and those that are wider behind a pointer.
+//! Tokens as they are kept: what takes more than a few bytes is behind a pointer.
 
-use crate::tokens::{Enclosing, Leaf, Naming, Token};
+use crate::error::ErrorKind;
+use crate::tokens::{Enclosing, Leaf, Naming, Opening, Reference};
 
-/// A token of any width.
+/// What names a group, and the byte where its token begins.
 #[derive(Drop)]
-pub struct Wide<'a> {
-    pub token: Token<'a>,
-    /// The byte where it begins.
+pub struct PlacedReference<'a> {
+    pub reference: Reference<'a>,
+    pub at: usize,
+}
+
+/// What an opening parenthesis begins, and the byte where that stands.
+#[derive(Drop)]
+pub struct PlacedOpening<'a> {
+    pub opening: Opening<'a>,
     pub at: usize,
 }
 
@@ -25,10 +32,14 @@ pub enum Kept<'a> {
         number: usize,
         left: usize,
     },
+    /// What names a group otherwise.
+    Refer(Box<PlacedReference<'a>>),
     Flags,
     Enclosing(Enclosing),
     /// A group without a name, by its number.
     Group(usize),
+    /// Any other opening parenthesis.
+    Open(Box<PlacedOpening<'a>>),
     Bar,
     Close,
     Star {
@@ -55,8 +66,13 @@ pub enum Kept<'a> {
         letter: char,
         text: &'a [char],
     },
+    ClassHexDigits {
+        negated: bool,
+    },
+    ClassBackspace,
+    ClassEscape,
     ClassClose,
-    Wide(Box<Wide<'a>>),
+    Broken(ErrorKind),
 }
 
 /// A token, and where it is.

@@ -88,8 +88,8 @@ pub fn behind_token(
             };
             behind_opening(outer, flags, opening, behind, left)
         }
+        Kept::Open(placed) => behind_opening(outer, flags, placed.opening, behind, left),
         Kept::Close => Ok(leave(outer, behind, left)),
-        Kept::Wide(wide) => behind_wide(outer, flags, wide.token, behind, left),
         _ => Ok(Ok(behind)),
     }
 }
@@ -107,24 +107,6 @@ fn behind_opening(
     match enter(outer, flags, opening, left)? {
         Ok(()) => Ok(Ok(behind)),
         Err(fault) => Ok(Err(fault)),
-    }
-}
-
-/// The same behind a token of any width.
-fn behind_wide(
-    outer: &mut Vec<Flags>,
-    flags: Flags,
-    token: Token<'_>,
-    behind: Lexing,
-    left: usize,
-) -> Result<Result<Lexing, Fault>, AllocError>
-    ensures { IfOk result (λ r. GoesBy (token_of token.entry) outer.old.items flags
-        behind left r outer.new.items) }
-{
-    match token {
-        Token::Open(opening) => behind_opening(outer, flags, opening, behind, left),
-        Token::Close => Ok(leave(outer, behind, left)),
-        _ => Ok(Ok(behind)),
     }
 }
 

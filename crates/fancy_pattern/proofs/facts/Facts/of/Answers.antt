@@ -1,9 +1,9 @@
-use Rattle.std.proofs.Common.{false, refl, sym, ap, cond, arith}
+use Rattle.std.proofs.Common.{sym, ap, cond, arith}
 use Rattle.fancy_pattern.specs.Described.{opens_group, names_number}
 use Rattle.fancy_pattern.specs.Surveyed.{names_group}
 use Rattle.fancy_pattern.specs.Spelling.{opens_named}
 use Rattle.fancy_tokens.specs.PatternViews.{placed_of}
-use Rattle.fancy_pattern.proofs.TokenTests.{any_more, counted_more, silent_here}
+use Rattle.fancy_pattern.proofs.TokenTests.{any_more, counted_more}
 use Rattle.fancy_pattern.proofs.facts.Facts.of.Goals as goal
 
 pub loop-placed-preserved : goal.loop-placed-preserved
@@ -27,27 +27,4 @@ loop-placed-preserved c =
       has_names =
           any_more (λ p. opens_named p.token) ts i d c.loop-placed.facts.has_names _ _ c.loop-placed-test.true
           (ap (λ x. opens_named (placed_of x).token) (sym c.placed-item.is)) before.has_names said.has_names;
-    }
-
-pub loop-placed-preserved-then-is_silent : goal.loop-placed-preserved-then-is_silent
-loop-placed-preserved-then-is_silent c =
-    let ts = c.args.tokens.now in
-    let i = c.loop-placed.placed-index in
-    let d = c.placed-item.result in
-    let said = c.is_silent.ensures in
-    let before = c.loop-placed.invariant in
-    record {
-      groups =
-          counted_more (λ p. opens_group p.token) ts i d c.loop-placed.facts.groups _ 0 c.loop-placed-test.true
-          (sym (ap (λ b. cond b 1 0) (silent_here opens_group ts i d c.placed-item.is (said.groups c.if-is_silent.true)))) before.groups (omega arith);
-      few = let b = before.few in omega (arith, b);
-      by_number =
-          any_more (λ p. names_number p.token) ts i d c.loop-placed.facts.by_number _ false c.loop-placed-test.true
-          (silent_here names_number ts i d c.placed-item.is (said.by_number c.if-is_silent.true)) before.by_number refl;
-      named =
-          any_more (λ p. names_group p.token) ts i d c.loop-placed.facts.names_group _ false c.loop-placed-test.true
-          (silent_here names_group ts i d c.placed-item.is (said.names_group c.if-is_silent.true)) before.named refl;
-      has_names =
-          any_more (λ p. opens_named p.token) ts i d c.loop-placed.facts.has_names _ false c.loop-placed-test.true
-          (silent_here opens_named ts i d c.placed-item.is (said.has_names c.if-is_silent.true)) before.has_names refl;
     }
