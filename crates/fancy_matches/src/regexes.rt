@@ -71,6 +71,13 @@ impl Regex {
     ///
     /// `CompileError` if the tree is refused. `NestLimitExceeded` if more nodes nest in one another, with calls written out,
     /// than `compilation.max_nesting`. `Memory` if an allocation fails.
+    ///
+    /// # Examples
+    ///
+    /// ```
+    /// let mut regex = Regex::new(alloc, &tree, &SearchOptions::default(), None)?; // of `b+`
+    /// let found = regex.find("abb b")?; // bytes 1..3
+    /// ```
     pub fn new(
         alloc: Global,
         tree: &ExprTree,
@@ -393,6 +400,12 @@ impl Regex {
     /// # Errors
     ///
     /// An item can be an error of the search; see [`Regex`]. No item follows it.
+    ///
+    /// # Examples
+    ///
+    /// ```
+    /// for found in regex.find_iter("abb b") { .. } // by `b+`: bytes 1..3, then 4..5
+    /// ```
     pub fn find_iter<'r, 't>(&'r mut self, text: &'t str) -> Matches<'r, 't>
         ensures begins { Begins self.entry text.now (matches_iteration result) }
         ensures apart { AreAllApart self.old text.now }

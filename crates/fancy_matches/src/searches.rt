@@ -33,7 +33,11 @@ pub trait FromSearch<'t>: Sized + Drop {
     // where the match is
     ghost span: { Self → Span };
 
-    /// What is reported of the first match by these options.
+    /// What is reported of the first match from byte `options.pos` of the text on; `None` if there is no match.
+    ///
+    /// # Errors
+    ///
+    /// Those of `next_found`.
     fn search(
         alloc: Global,
         compiled: &Compiled,
@@ -120,8 +124,26 @@ impl<'t> FromSearch<'t> for Captures<'t> {
     }
 }
 
-/// What is reported of the next match of a list, by these options; where each search begins, and whether it is continued,
-/// `standing` says. It then moves after that match, or stays before the search that failed.
+/// What is reported of the next match of a list: a `Match`, or `Captures` with all groups. `None` if the list has ended.
+///
+/// `standing` says at which byte of the text each search begins, and whether it is continued; `options` say the rest, and
+/// fit the empty text. `standing` then moves after that match, or stays before the search that failed. `scratch` is memory
+/// that searches use again: it is new, or was used for this tree alone, or has forgotten its engine.
+///
+/// # Errors
+///
+/// `RuntimeError` if a search exceeds a limit of backtracks, steps or branches. `Memory` if an allocation fails, or if a
+/// search exceeds a limit of `scratch`, which `Scratch::passed` then names.
+///
+/// # Examples
+///
+/// ```
+/// // `b+` in "abb b"
+/// let mut standing = Standing::first();
+/// let first = next_match(alloc, &compiled, text, &options, &mut standing, &mut scratch)?; // bytes 1..3
+/// let second = next_match(alloc, &compiled, text, &options, &mut standing, &mut scratch)?; // bytes 4..5
+/// let third = next_match(alloc, &compiled, text, &options, &mut standing, &mut scratch)?; // None
+/// ```
 pub fn next_found<'t, F: FromSearch<'t>>(
     alloc: Global,
     compiled: &Compiled,
@@ -161,7 +183,11 @@ pub fn next_found<'t, F: FromSearch<'t>>(
     Ok(None)
 }
 
-/// The next match of a list, without its groups, as `next_found` finds it.
+/// The next match of a list, without its groups, as `next_found` finds it. `None` if the list has ended.
+///
+/// # Errors
+///
+/// Those of `next_found`.
 pub fn next_match<'t>(
     alloc: Global,
     compiled: &Compiled,

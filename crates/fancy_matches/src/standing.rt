@@ -49,8 +49,8 @@ impl Standing {
         self.pos = usize::MAX;
     }
 
-    /// Moves after a match that was found, and returns whether it belongs to the list: it does not begin before its search,
-    /// and it is not an empty match directly after the last one.
+    /// Moves after a match that was found from byte `start` to byte `end` of the text, and returns whether it belongs to the
+    /// list: it does not begin before its search, and it is not an empty match directly after the last one.
     pub fn pass(&mut self, text: &str, start: usize, end: usize) -> bool
         requires { end ≤ length text.now }
         ensures listed { result ≡ list.is_listed (standing_of self.old) (start, end) }
