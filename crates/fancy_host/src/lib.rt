@@ -1,5 +1,9 @@
 //! What a program in C, or in any language that calls C, needs of the engine: a pattern is compiled once and searched for
 //! many times, each search within limits. The header is `fancy.h`.
+//!
+//! Positions and lengths are in bytes. An outcome is `FANCY_WRONG_SIZE` if the options have the size of another version,
+//! `FANCY_NOT_UTF8` with the byte from which on a pattern, a tree or a text is no UTF-8, and `FANCY_MEMORY` if an allocation
+//! fails. The errors of the calls below come to these.
 #![tactic(auto)]
 
 mod loose;
@@ -69,6 +73,17 @@ pub extern "C" fn fancy_version(version: &mut [u8]) -> usize
 
 /// Compiles a pattern, in UTF-8. What the program held before is freed. It holds the pattern if the code is `FANCY_OK`, and
 /// nothing otherwise; hosts/fancy.h lists the codes.
+///
+/// # Errors
+///
+/// A code of the pattern that cannot be read, or of a refusal, with its byte or its group; `FANCY_ANALYSIS_LIMIT_EXCEEDED`,
+/// `FANCY_NEST_LIMIT_EXCEEDED` or `FANCY_PATTERN_TOO_COMPLEX` if a limit is exceeded.
+///
+/// # Examples
+///
+/// ```
+/// let outcome = fancy_compile_pattern(alloc, b"(b+)c", &options, &mut program); // code: FANCY_OK, count: 2 groups
+/// ```
 #[unsafe(no_mangle)]
 pub extern "C" fn fancy_compile_pattern(
     alloc: Global,
@@ -90,6 +105,11 @@ pub extern "C" fn fancy_compile_pattern(
 /// code is `FANCY_OK`, and nothing otherwise. A tree that nests deeper than `max_depth` is refused before it is read, and
 /// one whose analysis exceeds `analysis_limit` before it is analysed. One with more nodes in one another than `max_nesting`,
 /// with calls written out, is refused while it is compiled.
+///
+/// # Errors
+///
+/// `FANCY_TREE_FAULT` with the byte, `FANCY_RECURSION_EXCEEDED` for `max_depth`, and those of `fancy_compile_pattern` for a
+/// tree that was read.
 #[unsafe(no_mangle)]
 pub extern "C" fn fancy_compile(
     alloc: Global,
@@ -109,6 +129,10 @@ pub extern "C" fn fancy_compile(
 
 /// Makes a copy of a program, for another thread. Both share what was compiled, and each has memory of its own for its
 /// searches. What the copy held before is freed. It holds the same if the code is `FANCY_OK`, and nothing otherwise.
+///
+/// # Errors
+///
+/// `FANCY_NO_PROGRAM` if the program holds nothing.
 #[unsafe(no_mangle)]
 pub extern "C" fn fancy_clone(
     alloc: Global,
@@ -133,6 +157,11 @@ pub extern "C" fn fancy_clone(
 }
 
 /// Whether a text, in UTF-8, has a match of what the program holds: the code is `FANCY_OK` or `FANCY_NO_MATCH`.
+///
+/// # Errors
+///
+/// `FANCY_NO_PROGRAM` if the program holds nothing; `FANCY_UNFIT` if the options do not fit it or the text; a code of the limit
+/// that the search exceeds.
 #[unsafe(no_mangle)]
 pub extern "C" fn fancy_is_match(
     alloc: Global,
@@ -163,6 +192,16 @@ pub extern "C" fn fancy_is_match(
 
 /// Finds the first match in a text, in UTF-8. Writes start and end of each group from 0 up, in bytes of the text, as far as
 /// there is room in `spans`, and `FANCY_UNSET` twice for a group that is not set.
+///
+/// # Errors
+///
+/// Those of `fancy_is_match`.
+///
+/// # Examples
+///
+/// ```
+/// let outcome = fancy_find(alloc, &mut program, b"abbc", &options, &mut spans); // spans: 1, 4 and 1, 3
+/// ```
 #[unsafe(no_mangle)]
 pub extern "C" fn fancy_find(
     alloc: Global,
@@ -198,6 +237,10 @@ pub extern "C" fn fancy_find(
 /// room in `spans`, and says how many. `standing` moves after them, so the same call again goes on. The code is `FANCY_OK`
 /// if there was no room for one more, and `FANCY_NO_MATCH` if the list has ended. After an error `standing` is before the
 /// search that failed. `pos` and `not_continued` of the options have no effect.
+///
+/// # Errors
+///
+/// Those of `fancy_is_match`, for each search.
 #[unsafe(no_mangle)]
 pub extern "C" fn fancy_find_all(
     alloc: Global,
@@ -235,6 +278,10 @@ pub extern "C" fn fancy_find_all(
 
 /// As `fancy_find_all`, but writes start and end of each group from 0 up for each match, and `FANCY_UNSET` twice for a group
 /// that is not set. A match has two numbers for each group.
+///
+/// # Errors
+///
+/// Those of `fancy_is_match`, for each search.
 #[unsafe(no_mangle)]
 pub extern "C" fn fancy_captures_all(
     alloc: Global,
@@ -274,6 +321,10 @@ pub extern "C" fn fancy_captures_all(
 /// as it is, or as a template, which `Template` reads. The new text is written as far as there is room, with a zero at its
 /// end, and its length in bytes is said. The code is `FANCY_OK` if all of it was written, and `FANCY_NO_ROOM` if not. After
 /// another code nothing is written. `pos` and `not_continued` of the options have no effect.
+///
+/// # Errors
+///
+/// Those of `fancy_is_match`, for each search, and `FANCY_NO_ROOM`.
 #[unsafe(no_mangle)]
 pub extern "C" fn fancy_replace(
     alloc: Global,
@@ -416,6 +467,10 @@ pub extern "C" fn fancy_free(alloc: Global, program: &mut FancyProgram)
 }
 
 /// Adds a pattern to a scanner, after the others. After an error the scanner has the patterns that it had.
+///
+/// # Errors
+///
+/// Those of `fancy_compile_pattern`.
 #[unsafe(no_mangle)]
 pub extern "C" fn fancy_scanner_add(
     alloc: Global,
@@ -445,6 +500,11 @@ pub extern "C" fn fancy_scanner_add(
 /// Searches a text, in UTF-8, for the patterns of a scanner, from match to match: of several patterns the match that
 /// begins first, and of several that begin there that of the pattern that was added first. Of the options `size` and
 /// `text_is_utf8` count here.
+///
+/// # Errors
+///
+/// A code of the limit that the search for the pattern `group` exceeds, if no other pattern has a match. Otherwise the row of
+/// the match names the first such pattern and its limit.
 #[unsafe(no_mangle)]
 pub extern "C" fn fancy_scan(
     alloc: Global,
