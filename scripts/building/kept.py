@@ -6,8 +6,8 @@ import fcntl
 import hashlib
 import shutil
 import tempfile
-from concurrent.futures import ThreadPoolExecutor
-from contextlib import ExitStack, contextmanager
+from concurrent.futures import ProcessPoolExecutor, as_completed
+from contextlib import contextmanager
 from pathlib import Path
 
 from .copies import take
@@ -15,13 +15,12 @@ from .crates import below, is_library_for_c, listed
 from .kit import ROOT, Failure, kit_folder, kit_name
 from .library import write_archive, write_library_module
 from .module import How, compile_module, link_program, write_module
-from .together import build_together, can_go_together
 
 KEPT = ROOT / "out/quick"
 # a program that the gate does not prove: its sources end in .rattle, and `uses` is its line of crates.txt
 BENCH = ROOT / "scripts/bench/fancy_bench"
 # the files of this folder that decide how a module is compiled
-HOW = [Path(__file__).with_name(it) for it in ("hints.py", "library.py", "module.py", "reached.py", "together.py")]
+HOW = [Path(__file__).with_name(it) for it in ("hints.py", "library.py", "module.py", "reached.py")]
 
 
 def known():
@@ -121,55 +120,17 @@ def build_kept(crate):
         return file, True
 
 
-def groups_of(crates, jobs):
-    """What goes into one module: all, or a half into each of two, if there are processors to make both at once."""
-    if jobs < 4 or len(crates) < 4:
-        return [crates]
-    return [crates[::2], crates[1::2]]
-
-
-def build_stale(crates, jobs, say):
-    """Builds together those of several crates whose sources changed, if they are more than one. `say` gets each."""
-    with ExitStack() as locks:
-        for it in sorted(crates):
-            locks.enter_context(alone(it))
-        sums = {it: sum_of_sources(it) for it in crates if not is_kept(it)}
-        if len(sums) < 2:
-            return
-
-        def note(crate):
-            if sum_of_sources(crate) == sums[crate]:
-                kept(crate)[1].write_text(sums[crate])
-            say(crate)
-
-        for it in sums:
-            kept(it)[1].unlink(missing_ok=True)
-        def build_group(group):
-            with tempfile.TemporaryDirectory(prefix="quick-build-") as folder:
-                build_together(kit_folder(), {it: kept(it)[0] for it in group}, Path(folder), How(), jobs, note)
-
-        groups = groups_of(list(sums), jobs)
-        with ThreadPoolExecutor(len(groups)) as workers:
-            list(workers.map(build_group, groups))
-
-
 def build_all(crates, jobs, say):
     """Builds several crates side by side. Returns the file of each; `say` gets a line for each that is done."""
-    built = set()
-
-    def tell(crate, is_new):
-        say(f"{crate}: {'built' if is_new else 'as it was built before'}, NOT PROVED")
-        built.add(crate)
-
-    def work(crate):
-        file, is_new = build_kept(crate)
-        if crate not in built:
-            tell(crate, is_new)
-        return file
-
-    build_stale([it for it in crates if can_go_together(it)], jobs, lambda it: tell(it, True))
-    with ThreadPoolExecutor(jobs) as workers:
-        return dict(zip(crates, workers.map(work, crates)))
+    files = {}
+    # a process for each: the threads of one would make over one module at a time
+    with ProcessPoolExecutor(jobs) as workers:
+        builds = {workers.submit(build_kept, it): it for it in crates}
+        for build_of in as_completed(builds):
+            crate = builds[build_of]
+            files[crate], is_new = build_of.result()
+            say(f"{crate}: {'built' if is_new else 'as it was built before'}, NOT PROVED")
+    return files
 
 
 def proved(crate):

@@ -115,7 +115,7 @@ def write_library_module(kit, folder, how):
     module, words = write_module(kit, crate, folder, how)
     shutil.rmtree(folder / "repository")
     with open(module, encoding="utf-8") as lines:
-        Module(exported(lines, names)).write(folder / "library.ll", names, {})
+        Module(exported(lines, names)).write(folder / "library.ll", names)
     return folder / "library.ll", words
 
 

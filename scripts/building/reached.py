@@ -16,11 +16,6 @@ def to_the_end(lines):
     raise Failure("a function of the module has no end")
 
 
-def with_body(text, body):
-    """A function with another body."""
-    return f"{text.splitlines()[0]}\nstart:\n  {body}\n}}\n"
-
-
 class Module:
     """A module in text form: its functions and constants by their names, and its other lines."""
 
@@ -34,19 +29,19 @@ class Module:
             elif not line.startswith((";", "\n")):
                 self.others.append(line)
 
-    def reached(self, roots, changed):
-        """The texts that the roots reach, by their names; `changed` has some that are otherwise than in the module."""
+    def reached(self, roots):
+        """The texts that the roots reach, by their names."""
         found, left = {}, list(roots)
         while left:
             name = left.pop()
             if name not in found and name in self.named:
-                found[name] = changed.get(name) or self.named[name]
+                found[name] = self.named[name]
                 left += NAME.findall(found[name])
         return found
 
-    def write(self, file, roots, changed):
+    def write(self, file, roots):
         """Writes what the roots reach, in the order of the module."""
-        found = self.reached(roots, changed)
+        found = self.reached(roots)
         with open(file, "w", encoding="utf-8") as made:
             made.writelines(self.others)
             made.writelines(found[it] for it in self.named if it in found)
