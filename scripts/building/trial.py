@@ -11,7 +11,7 @@ from pathlib import Path
 
 from .kit import ROOT, Failure, done, run
 
-DEBIAN = ("python3", "python3-pip", "gcc", "libc6-dev", "pkg-config", "ca-certificates")
+DEBIAN = ("python3", "python3-pip", "gcc", "g++", "libc6-dev", "pkg-config", "ca-certificates")
 SYSTEM = ("usr", "lib", "lib64", "bin", "sbin", "etc/alternatives", "etc/ssl")
 # what is bound into either root: the host's cargo, and its Python if it is not the system's
 TOOLS = [Path(os.environ.get("CARGO_HOME", Path.home() / ".cargo")), Path(os.environ.get("RUSTUP_HOME", Path.home() / ".rustup"))]
