@@ -23,11 +23,13 @@
 //!   `RuntimeError` `StepLimitExceeded`, `VisitLimitExceeded` and `MemoryLimitExceeded` are new.
 //! - [`Options`] and [`Regex::of_tree`] are new, for trees and for the options of `fancy.h`.
 //! - [`Scanner`] is new: many patterns that are searched for together.
+//! - [`ByteText`] is new: texts that need not be UTF-8.
 //! - A search from a byte that is no character boundary panics.
 //! - Of several groups with one name, [`Captures::name`] returns the first that is set.
 
 #![deny(missing_docs)]
 
+mod bytes;
 mod captures;
 mod error;
 mod expand;
@@ -39,6 +41,7 @@ mod replacer;
 mod scanner;
 mod splits;
 
+pub use crate::bytes::ByteText;
 pub use crate::captures::{Captures, Match, SubCaptureMatches};
 pub use crate::error::{
     CompileError, Error, ParseError, ParseErrorPosition, Refusal, Result, RuntimeError,
