@@ -1,7 +1,10 @@
 //! What a host holds: a tree that was compiled, and the memory of its searches.
 
 ghost use Rattle.std.specs.Prelude.{◌≡◌, IfOk, MatchResult};
+ghost use Rattle.std.specs.Arc.{arc_value};
+ghost use Rattle.std.proofs.Props.{props};
 ghost use Rattle.fancy_expr.specs.Sound.{IsWellFormedTree};
+ghost use Rattle.fancy_search.specs.Scratches.{Suits};
 
 use crate::options::FancyOptions;
 use crate::outcome::FancyOutcome;
@@ -23,6 +26,7 @@ use std::sync::Arc;
 pub struct Searcher {
     tree: Arc<CompiledTree>,
     scratch: Scratch,
+    ghost suits: { Suits (arc_value tree).compiled scratch } by { Prim.hlevel props },
 }
 
 impl Searcher {

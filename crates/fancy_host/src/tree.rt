@@ -84,7 +84,9 @@ impl CompiledTree {
         spans: &mut [usize],
         scratch: &mut Scratch,
     ) -> FancyOutcome
-        ensures { Answers
+        requires { Suits (compiled_of self.now) scratch.old }
+        ensures suits { Suits (compiled_of self.now) scratch.new }
+        ensures answers { Answers
             self.now
             text.now
             options.now
@@ -97,7 +99,6 @@ impl CompiledTree {
         if !self.compiled.fits(text, &running) {
             return FancyOutcome::unfit();
         }
-        scratch.forget_engine();
         scratch.limit(options.limits());
         let answer = self.compiled.search(alloc, text, &running, scratch);
         write_answer(&answer, spans);
@@ -112,14 +113,15 @@ impl CompiledTree {
         options: &FancyOptions,
         scratch: &mut Scratch,
     ) -> FancyOutcome
-        ensures { Tells
+        requires { Suits (compiled_of self.now) scratch.old }
+        ensures suits { Suits (compiled_of self.now) scratch.new }
+        ensures tells { Tells
             self.now text.now options.now (hosted.passed_in options.now scratch.new) result }
     {
         let running = options.running(text);
         if !self.compiled.fits(text, &running) {
             return FancyOutcome::unfit();
         }
-        scratch.forget_engine();
         scratch.limit(options.limits());
         let found = self.compiled.search(alloc, text, &running, scratch);
         FancyOutcome::of_found(&found, scratch.passed())
@@ -186,8 +188,10 @@ impl CompiledTree {
         room: &mut [usize],
         scratch: &mut Scratch,
     ) -> FancyOutcome
-        requires { width ≡ width_of F.form self.now }
-        ensures { Lists
+        requires width { width ≡ width_of F.form self.now }
+        requires suits { Suits (compiled_of self.now) scratch.old }
+        ensures suits { Suits (compiled_of self.now) scratch.new }
+        ensures lists { Lists
             F.form
             self.now
             text.now
@@ -203,7 +207,6 @@ impl CompiledTree {
         if !self.compiled.fits("", &listing) {
             return FancyOutcome::unfit();
         }
-        scratch.forget_engine();
         scratch.limit(options.limits());
         let mut list = standing.standing();
         let outcome = self.write_rows::<F>(alloc, text, &listing, width, &mut list, room, scratch);
@@ -222,7 +225,9 @@ impl CompiledTree {
         spans: &mut [usize],
         scratch: &mut Scratch,
     ) -> FancyOutcome
-        ensures { Lists
+        requires { Suits (compiled_of self.now) scratch.old }
+        ensures suits { Suits (compiled_of self.now) scratch.new }
+        ensures lists { Lists
             span_alone
             self.now
             text.now
@@ -247,7 +252,9 @@ impl CompiledTree {
         spans: &mut [usize],
         scratch: &mut Scratch,
     ) -> FancyOutcome
-        ensures { Lists
+        requires { Suits (compiled_of self.now) scratch.old }
+        ensures suits { Suits (compiled_of self.now) scratch.new }
+        ensures lists { Lists
             all_groups
             self.now
             text.now
@@ -329,7 +336,9 @@ impl CompiledTree {
         room: &mut [u8],
         scratch: &mut Scratch,
     ) -> FancyOutcome
-        ensures { Replaces
+        requires { Suits (compiled_of self.now) scratch.old }
+        ensures suits { Suits (compiled_of self.now) scratch.new }
+        ensures replaces { Replaces
             self.now
             text.now
             options.now
@@ -344,7 +353,6 @@ impl CompiledTree {
         if !self.compiled.fits("", &listing) {
             return FancyOutcome::unfit();
         }
-        scratch.forget_engine();
         scratch.limit(options.limits());
         match self.replaced(
             alloc,

@@ -5,13 +5,13 @@ use Rattle.fancy_host.proofs.Answered.{fits_by, promised_by, unfit_answers}
 use Rattle.fancy_host.proofs.LimitsPassed.{passed_so}
 use Rattle.fancy_host.proofs.tree.CompiledTree.find.Goals as goal
 
-pub returns-then-not-fits : goal.returns-then-not-fits
-returns-then-not-fits c =
+pub returns-then-not-fits-clause-answers : goal.returns-then-not-fits-clause-answers
+returns-then-not-fits-clause-answers c =
     unfit_answers c.args.text.now c.args.options.now (passed_in c.args.options.now c.args.scratch.now) c.unfit.result c.args.spans.now c.args.self.now _ c.running-running.ensures
     (sym c.fits.ensures ∙ c.if-not-fits.true) c.unfit.ensures
 
-pub returns : goal.returns
-returns c =
+pub returns-clause-answers : goal.returns-clause-answers
+returns-clause-answers c =
     let s = c.args.self.now in
     let text = c.args.text.now in
     let o = c.args.options.now in
@@ -29,4 +29,4 @@ returns c =
     (subst (StaysWithin answer) is c.search-answer.ensures.stays)))
 
 pub search-answer-requires-clause-suits : goal.search-answer-requires-clause-suits
-search-answer-requires-clause-suits c = c.limit.ensures.suits _ (c.forget_engine.ensures.suits _)
+search-answer-requires-clause-suits c = c.limit.ensures.suits _ c.requires

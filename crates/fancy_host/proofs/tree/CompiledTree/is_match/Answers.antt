@@ -7,13 +7,13 @@ use Rattle.fancy_host.proofs.Told.{unfit_tells}
 use Rattle.fancy_host.proofs.LimitsPassed.{passed_so}
 use Rattle.fancy_host.proofs.tree.CompiledTree.is_match.Goals as goal
 
-pub returns-then-not-fits : goal.returns-then-not-fits
-returns-then-not-fits c =
+pub returns-then-not-fits-clause-tells : goal.returns-then-not-fits-clause-tells
+returns-then-not-fits-clause-tells c =
     unfit_tells c.args.text.now c.args.options.now (passed_in c.args.options.now c.args.scratch.now) c.unfit.result c.args.self.now _ c.running-running.ensures
     (sym c.fits.ensures ∙ c.if-not-fits.true) c.unfit.ensures
 
-pub returns : goal.returns
-returns c =
+pub returns-clause-tells : goal.returns-clause-tells
+returns-clause-tells c =
     let s = c.args.self.now in
     let text = c.args.text.now in
     let o = c.args.options.now in
@@ -27,4 +27,4 @@ returns c =
     (subst (StaysWithin answer) is c.search-found.ensures.stays))
 
 pub search-found-requires-clause-suits : goal.search-found-requires-clause-suits
-search-found-requires-clause-suits c = c.limit.ensures.suits _ (c.forget_engine.ensures.suits _)
+search-found-requires-clause-suits c = c.limit.ensures.suits _ c.requires

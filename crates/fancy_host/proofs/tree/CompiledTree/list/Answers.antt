@@ -9,8 +9,8 @@ use Rattle.fancy_host.specs.Lists.{Lists, Writes, does_not_fit, listed, listing,
 use Rattle.fancy_host.proofs.LimitsPassed.{passed_so}
 use Rattle.fancy_host.proofs.tree.CompiledTree.list.Goals as goal
 
-pub returns-then-not-fits : goal.returns-then-not-fits
-returns-then-not-fits g c =
+pub returns-then-not-fits-clause-lists : goal.returns-then-not-fits-clause-lists
+returns-then-not-fits-clause-lists g c =
     let form = g.F.Row.form in
     let s = c.args.self.now in
     let text = c.args.text.now in
@@ -23,10 +23,10 @@ returns-then-not-fits g c =
     (subst (λ r. run_fits (record { program = prog_of (program (compiled_of s)); text = []; options = r }) ≡ false) c.listing-listing.ensures no))
 
 pub write_rows-outcome-requires : goal.write_rows-outcome-requires
-write_rows-outcome-requires g c k = ((refl, tt), (sym c.fits.ensures ∙ c.if-not-fits.false, (c.requires, (c.limit.ensures.passed, c.limit.ensures.suits _ (c.forget_engine.ensures.suits _)))))
+write_rows-outcome-requires g c k = ((refl, tt), (sym c.fits.ensures ∙ c.if-not-fits.false, (c.requires.width, (c.limit.ensures.passed, c.limit.ensures.suits _ c.requires.suits))))
 
-pub returns : goal.returns
-returns g c =
+pub returns-clause-lists : goal.returns-clause-lists
+returns-clause-lists g c =
     let form = g.F.Row.form in
     let s = c.args.self.now in
     let text = c.args.text.now in
@@ -45,7 +45,7 @@ returns g c =
     (subst (λ p. Writes form (width_of form s) (compiled_of s) text (listing o text) p (standing_of c.args.standing.now) old (standing_of c.of.result) new outcome)
     (passed_so o scratch limits_are)
     (subst (λ w. Writes form w (compiled_of s) text (listing o text) passed (standing_of c.args.standing.now) old (standing_of c.of.result) new outcome)
-    c.requires
+    c.requires.width
     (subst (λ t. Writes form width (compiled_of s) text (listing o text) passed (standing_of c.args.standing.now) old t new outcome) (sym c.of.ensures)
     (subst (λ from. Writes form width (compiled_of s) text (listing o text) passed from old to new outcome) c.standing-list.ensures
     (subst (λ r. Writes form width (compiled_of s) text r passed (matches.standing_of c.standing-list.result) old to new outcome) c.listing-listing.ensures

@@ -10,8 +10,8 @@ use Rattle.fancy_host.specs.Rewritten.{FailsToRewrite, IsRewritten, Replaces, do
 use Rattle.fancy_host.proofs.LimitsPassed.{passed_so}
 use Rattle.fancy_host.proofs.tree.CompiledTree.replace.Goals as goal
 
-pub returns-then-not-fits : goal.returns-then-not-fits
-returns-then-not-fits c =
+pub returns-then-not-fits-clause-replaces : goal.returns-then-not-fits-clause-replaces
+returns-then-not-fits-clause-replaces c =
     let s = c.args.self.now in
     let text = c.args.text.now in
     let o = c.args.options.now in
@@ -21,8 +21,8 @@ returns-then-not-fits c =
     (does_not_fit
     (subst (λ r. run_fits (record { program = prog_of (program (compiled_of s)); text = []; options = r }) ≡ false) c.listing-listing.ensures no))
 
-pub returns-in-Ok : goal.returns-in-Ok
-returns-in-Ok c =
+pub returns-in-Ok-clause-replaces : goal.returns-in-Ok-clause-replaces
+returns-in-Ok-clause-replaces c =
     let s = c.args.self.now in
     let text = c.args.text.now in
     let o = c.args.options.now in
@@ -38,8 +38,8 @@ returns-in-Ok c =
     (c.write_kept.ensures is.new (subst (λ n. Holds c.in-Ok.new n is.new) c.text_room.ensures is.holds))
     (sym (passed_so o scratch limits_are) ∙ c.in-Ok.ensures.stays)
 
-pub returns-in-Err : goal.returns-in-Err
-returns-in-Err c =
+pub returns-in-Err-clause-replaces : goal.returns-in-Err-clause-replaces
+returns-in-Err-clause-replaces c =
     let s = c.args.self.now in
     let text = c.args.text.now in
     let o = c.args.options.now in
@@ -61,4 +61,4 @@ pub replaced-requires-clause-passed : goal.replaced-requires-clause-passed
 replaced-requires-clause-passed c = c.limit.ensures.passed
 
 pub replaced-requires-clause-suits : goal.replaced-requires-clause-suits
-replaced-requires-clause-suits c = c.limit.ensures.suits _ (c.forget_engine.ensures.suits _)
+replaced-requires-clause-suits c = c.limit.ensures.suits _ c.requires
