@@ -18,8 +18,3 @@ literal_tests literal = map (λ d. literal_takes (literal_unicode literal) d.0 d
 abbrev pub can_begin_with : (tests : List (ℕ → Bool)) → ℕ → Bool
 can_begin_with [] c = true
 can_begin_with (test ∷ tests) c = test c
-
--- whether the second of these tests passes on the character, if there is one
-abbrev pub can_go_on_with : (tests : List (ℕ → Bool)) → ℕ → Bool
-can_go_on_with [] c = true
-can_go_on_with (test ∷ tests) c = can_begin_with tests c

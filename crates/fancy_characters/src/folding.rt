@@ -120,7 +120,7 @@ impl Drop for CaseiLiteral {
 }
 
 impl CaseiLiteral {
-    ghost use Rattle.fancy_characters.specs.Literals.{can_begin_with, can_go_on_with, literal_chars, literal_unicode, literal_tests};
+    ghost use Rattle.fancy_characters.specs.Literals.{can_begin_with, literal_chars, literal_unicode, literal_tests};
 
     /// The literal of these characters, each with whether it is folded.
     pub fn new(chars: Vec<(char, bool)>, unicode: bool) -> CaseiLiteral
@@ -144,16 +144,6 @@ impl CaseiLiteral {
         match self.chars.first() {
             None => true,
             Some((first, casei)) => literal_takes(self.unicode, *first as u32, *casei, c as u32),
-        }
-    }
-
-    /// Whether it can take this character behind its first one. A literal of fewer than two characters can.
-    pub fn can_go_on_with(&self, c: u8) -> bool
-        ensures { result ≡ can_go_on_with (literal_tests self.now) c }
-    {
-        match self.chars.get(1) {
-            None => true,
-            Some((second, casei)) => literal_takes(self.unicode, *second as u32, *casei, c as u32),
         }
     }
 

@@ -268,18 +268,3 @@ excluded_byte (level ∷ levels) ascii byte is small out text place here =
     let same : level ≡ ascii = cc in
     ap (is_begun_by level rest) here ∙ ap (λ v. if v then slice_index_or level byte false && rest else true) is_ascii
     ∙ ap (λ l. slice_index_or l byte false && rest) same ∙ ap (λ b. b && rest) out
-
-pub excluded_second_byte : (levels : List (List Bool)) (ascii : List Bool) (byte : ℕ) → slice_get levels 1 ≡ Some ascii → byte < 128 →
-    slice_index_or ascii byte false ≡ false → (text : List ℕ) (place first : ℕ) → slice_get text place ≡ Some first → first < 128 →
-    slice_get text (place + 1) ≡ Some byte → may_begin levels text place ≡ false
-excluded_second_byte [] ascii byte is small out text place first here ascii_first behind = cc
-excluded_second_byte (level ∷ levels) ascii byte is small out text place first here ascii_first behind =
-    let is_ascii : nat_lt first 128 ≡ true = grind (arith, nat_tests) in
-    let rest = excluded_byte levels ascii byte is small out text (place + 1) behind in
-    ap (is_begun_by level (may_begin levels text (place + 1))) here
-    ∙ ap (λ v. if v then slice_index_or level first false && may_begin levels text (place + 1) else true) is_ascii
-    ∙ ap (λ v. slice_index_or level first false && v) rest ∙ and_none (slice_index_or level first false)
-  where
-    and_none : (b : Bool) → (b && false) ≡ false
-    and_none true = refl
-    and_none false = refl

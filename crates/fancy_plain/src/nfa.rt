@@ -1,6 +1,6 @@
 //! The NFA of neighbouring easy nodes.
 
-ghost use Rattle.std.specs.Prelude.{◌≡◌, ◌<◌, ◌+◌, ℕ, List, Some, false, true, IfErr, IfOk, IsTrue, length, map, slice_get};
+ghost use Rattle.std.specs.Prelude.{◌≡◌, ℕ, List, Some, false, true, IfErr, IfOk, IsTrue, length, map, slice_get};
 ghost use Rattle.fancy_info.specs.Infos.{info_tree};
 ghost use Rattle.fancy_expr.specs.Each.{Each};
 ghost use Rattle.fancy_meaning.specs.Options.{Analysis};
@@ -198,18 +198,6 @@ impl Nfa {
         match self.first_sets.first() {
             None => false,
             Some(ascii) => byte < 128 && !ascii[byte as usize],
-        }
-    }
-
-    /// Whether no way can begin where this byte stands behind an ASCII character.
-    pub fn excludes_second(&self, byte: u8) -> bool
-        ensures { IsTrue result → (text : List ℕ) (ix first : ℕ) → IsText text
-            → IsTrue (is_place text ix) → slice_get text ix ≡ Some first → first < 128
-            → slice_get text (ix + 1) ≡ Some byte → HasNoWayAt text self.now ix }
-    {
-        match self.first_sets.get(1) {
-            None => false,
-            Some(second) => byte < 128 && !second[byte as usize],
         }
     }
 }
