@@ -1,7 +1,7 @@
 -- The choices at many iterations of a loop, and pairs that may have a way.
 use Rattle.std.proofs.Common.{◌≡◌, ◌<◌, ◌+◌, ◌-◌, ◌*◌, ◌++◌, ℕ, zero, suc, Bool, true, false, List, [], ◌∷◌, Some, length, refl, sym, ap, ◌∙◌, subst, arith}
-use Rattle.fancy_nfa.specs.NfaSearch as plain
-use Rattle.fancy_nfa.specs.NfaSearch.{Frame, Search, TakesUp, goes_to, pair_of, passes}
+use Rattle.fancy_nfa_laws.specs.NfaSearch as plain
+use Rattle.fancy_nfa_laws.specs.NfaSearch.{Frame, Search, TakesUp, goes_to, pair_of, passes}
 use Rattle.fancy_backtrack.specs.declared.backtrack_stack.StackFrame.{StackFrame}
 use Rattle.fancy_backtrack.specs.declared.trail.Entry.{Entry}
 use Rattle.fancy_backtrack.specs.declared.trail.Trail.{Trail}

@@ -1,10 +1,10 @@
 -- What is kept of a search and of a configuration when the path grows or is cut.
 use Rattle.std.proofs.Common.{◌≡◌, ◌≤◌, ◌+◌, ◌∷◌, ◌++◌, [], ℕ, List, Bool, true, false, Option, Some, None, Result, Ok, map, length, take, slice_get, refl, sym, ap, ap₂, ◌∙◌, ◌||◌, subst, arith, nat_lt, if◌then◌else◌, length-append, OnOk, IfOk, Err}
 use Rattle.std.proofs.lemmas.List.{take_all}
-use Rattle.fancy_nfa.specs.NfaSearch as plain
+use Rattle.fancy_nfa_laws.specs.NfaSearch as plain
 use Rattle.std.proofs.lemmas.Bool.{cond-true, cond-false}
-use Rattle.fancy_nfa.specs.NfaStates.{Loop, Close}
-use Rattle.fancy_nfa.specs.NfaStates as states
+use Rattle.fancy_nfa_laws.specs.NfaStates.{Loop, Close}
+use Rattle.fancy_nfa_laws.specs.NfaStates as states
 use Rattle.fancy_backtrack.specs.declared.memo.StepResult.TheVariants as step_result
 use Rattle.fancy_backtrack.specs.Paths.{HasCounters, HasOpened, EndsOpened, EndsCounters, IsCounter, IsOpened, IsConfig, closed_after, counter_of}
 use Rattle.fancy_backtrack.specs.BacktrackStack.{choices_of}

@@ -3,7 +3,7 @@ use Rattle.std.proofs.Common.{◌≡◌, ℕ, Bool, true, false, ◌&&◌, not, 
 use Rattle.std.proofs.Math.Bool.{and_assoc}
 use Rattle.std.proofs.lemmas.Bool.{false_from_ne_true, true≢false}
 use lib.Pointwise.{pointwise, bytes_decides}
-use Rattle.fancy_nfa.specs.NfaSearch.{Pair, same_counter, same_pair}
+use Rattle.fancy_nfa_laws.specs.NfaSearch.{Pair, same_counter, same_pair}
 use Rattle.fancy_backtrack.specs.PairKeys.{same_numbers, stayed_number, counter_numbers, key_of}
 
 -- the number of a test is the same exactly if the test is

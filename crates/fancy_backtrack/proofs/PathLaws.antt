@@ -3,7 +3,7 @@ use Rattle.std.proofs.Common.{◌≡◌, ◌≤◌, ◌<◌, ◌∷◌, ◌++◌
 use Rattle.std.proofs.lemmas.List.{take-append-le, take-take}
 use Rattle.std.specs.Prelude.{nat_eq}
 use Rattle.std.specs.Option.{option_eq}
-use Rattle.fancy_nfa.specs.NfaSearch as plain
+use Rattle.fancy_nfa_laws.specs.NfaSearch as plain
 use Rattle.fancy_backtrack.specs.PairKeys.{counter_numbers, stayed_number}
 use Rattle.fancy_backtrack.specs.Paths.{HasCounters, HasOpened, IsCounter, IsOpened, EndsCounters, IsConfig, closed_after}
 use Rattle.fancy_backtrack.specs.Memos.{AreKept, Continuation}

@@ -1,8 +1,8 @@
 -- Loops whose iterations are counted, and which ways on the definition finds at the head of one.
 use Rattle.std.specs.Prelude.{◌≡◌, ℕ, true, false, List, [], ◌∷◌, None, nat_lt}
-use Rattle.fancy_nfa.specs.NfaStates as states
-use Rattle.fancy_nfa.specs.NfaSearch as plain
-use Rattle.fancy_nfa.specs.NfaSearch.{LoopCounter}
+use Rattle.fancy_nfa_laws.specs.NfaStates as states
+use Rattle.fancy_nfa_laws.specs.NfaSearch as plain
+use Rattle.fancy_nfa_laws.specs.NfaSearch.{LoopCounter}
 use Rattle.fancy_expr.specs.Views.{bound_of}
 use Rattle.fancy_backtrack.specs.declared.loops.Loop.{Loop}
 use Rattle.fancy_backtrack.specs.declared.loops.LoopChoice.{LoopChoice}

@@ -1,7 +1,7 @@
 -- How what the code keeps of a search stands for the search of the definition.
 use Rattle.std.specs.Prelude.{◌≡◌, ◌≤◌, ◌+◌, ◌*◌, ◌^◌, ◌-◌, ℕ, zero, suc, min, Bool, true, false, List, [], ◌∷◌, ◌++◌, length, Some, Result, Ok, Err}
-use Rattle.fancy_nfa.specs.NfaSearch as plain
-use Rattle.fancy_nfa.specs.NfaSearch.{Pair, Frame, Other, Fails, Search, Next, TakesUp, TakesBack, Ends, goes_to, pair_of}
+use Rattle.fancy_nfa_laws.specs.NfaSearch as plain
+use Rattle.fancy_nfa_laws.specs.NfaSearch.{Pair, Frame, Other, Fails, Search, Next, TakesUp, TakesBack, Ends, goes_to, pair_of}
 use Rattle.std.specs.declared.alloc.AllocError.{AllocError}
 use Rattle.fancy_backtrack.specs.declared.trail.Entry.{Entry}
 use Rattle.fancy_backtrack.specs.declared.trail.NfaConfig.{NfaConfig}

@@ -1,7 +1,7 @@
 -- Pairs of a state and a place as numbers.
 use Rattle.std.specs.Prelude.{ℕ, Bool, true, false, List, [], ◌∷◌, nat_eq}
 use lib.Pointwise.{pointwise}
-use Rattle.fancy_nfa.specs.NfaSearch.{Pair}
+use Rattle.fancy_nfa_laws.specs.NfaSearch.{Pair}
 
 -- two lists of the same numbers
 abbrev pub same_numbers : List ℕ → List ℕ → Bool

@@ -1,7 +1,7 @@
 -- The path of a search: what each entry stands for, and a configuration by its links.
 use Rattle.std.specs.Prelude.{◌≡◌, ◌≤◌, ℕ, suc, List, [], ◌∷◌, take, Option, Some, None, slice_get}
 use Rattle.fancy_meaning.specs.MatchState.{Span}
-use Rattle.fancy_nfa.specs.NfaSearch as plain
+use Rattle.fancy_nfa_laws.specs.NfaSearch as plain
 use Rattle.fancy_backtrack.specs.declared.trail.Entry.{Entry}
 use Rattle.fancy_backtrack.specs.declared.trail.Entry.TheVariants as entry
 use Rattle.fancy_backtrack.specs.declared.trail.LoopCounter.{LoopCounter}

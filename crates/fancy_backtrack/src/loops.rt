@@ -1,7 +1,7 @@
 //! Loops whose iterations are counted, and which ways on there are at the head of one.
 
 ghost use Rattle.std.specs.Prelude.{◌≡◌, ◌==◌, ◌<◌, ◌+◌, false, min, if◌then◌else◌};
-ghost use Rattle.fancy_nfa.specs.NfaSearch as plain;
+ghost use Rattle.fancy_nfa_laws.specs.NfaSearch as plain;
 ghost use Rattle.fancy_backtrack.specs.Loops.{loop_of, ChoosesBy};
 ghost use Rattle.fancy_backtrack.specs.Paths.{counter_of};
 

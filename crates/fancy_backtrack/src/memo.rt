@@ -1,9 +1,9 @@
 //! What a search keeps: where it stands on its path, what it tries later, and the pairs that have no way.
 
 ghost use Rattle.std.specs.Prelude.{nat_lt, ◌≡◌, ◌≤◌, ◌<◌, ◌+◌, ◌∷◌, ◌++◌, [], ℕ, List, Bool, min, true, false, length, map, take, IfOk, IfErr, IfSome, IsTrue};
-ghost use Rattle.fancy_nfa.specs.NfaSearch as plain;
-ghost use Rattle.fancy_nfa.specs.NfaSearch.{Search, TakesUp, pair_of};
-ghost use Rattle.fancy_nfa.specs.NfaStates as states;
+ghost use Rattle.fancy_nfa_laws.specs.NfaSearch as plain;
+ghost use Rattle.fancy_nfa_laws.specs.NfaSearch.{Search, TakesUp, pair_of};
+ghost use Rattle.fancy_nfa_laws.specs.NfaStates as states;
 ghost use Rattle.fancy_backtrack.specs.PairKeys.{key_of, counter_numbers};
 ghost use Rattle.fancy_backtrack.specs.Paths.{HasCounters, counter_of};
 ghost use Rattle.fancy_backtrack.specs.Loops.{loop_of, Repeats};
@@ -141,7 +141,7 @@ impl Memo {
 
     /// The search has taken up more states than it may.
     #[inline(always)]
-    pub fn is_past_visits(&self) -> bool
+    pub fn exceeds_visits(&self) -> bool
         ensures { result ≡ nat_lt self.now.budget.visits self.now.visits }
     {
         self.visits > self.budget.visits

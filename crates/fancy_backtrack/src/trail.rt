@@ -1,7 +1,7 @@
 //! Configurations of a search, and the path that it took to the one where it stands.
 
 ghost use Rattle.std.specs.Prelude.{◌≡◌, ◌++◌, ◌∷◌, [], ◌≤◌, ◌<◌, ◌+◌, List, ℕ, take, length, option_map, Some, None, IfOk, IfSome};
-ghost use Rattle.fancy_nfa.specs.NfaSearch as plain;
+ghost use Rattle.fancy_nfa_laws.specs.NfaSearch as plain;
 ghost use Rattle.fancy_backtrack.specs.Paths.{HasCounters, HasOpened, EndsCounters, EndsOpened};
 ghost use Rattle.fancy_backtrack.specs.Bytes.{trail_bytes, saturated};
 

@@ -22,13 +22,13 @@ pub fn past_piece(
 {
     let text = text.as_bytes();
     if casei {
-        past_folded(text, unicode, from, to, ix)
+        skip_folded(text, unicode, from, to, ix)
     } else {
         past_bytes(text, piece(text, from, to), ix)
     }
 }
 
-fn past_folded(text: &[u8], unicode: bool, from: usize, to: usize, ix: usize) -> Option<usize>
+fn skip_folded(text: &[u8], unicode: bool, from: usize, to: usize, ix: usize) -> Option<usize>
     ensures { result ≡ moves.past_piece text.now unicode true (from, to) ix }
 {
     let len = to.saturating_sub(from);

@@ -82,7 +82,7 @@ pub fn past_bytes(text: &[u8], bytes: &[u8], ix: usize) -> Option<usize>
 }
 
 /// Past one character; an LF only with `newline`, and with `crlf` a CR only so too.
-pub fn past_any(text: &[u8], newline: bool, crlf: bool, ix: usize) -> Option<usize>
+pub fn skip_any(text: &[u8], newline: bool, crlf: bool, ix: usize) -> Option<usize>
     ensures { result ≡ moves.past_char text.now (any_takes newline crlf) ix }
 {
     let c = char_at(text, ix)?;

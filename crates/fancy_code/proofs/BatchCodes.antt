@@ -19,8 +19,8 @@ use Rattle.fancy_info.specs.declared.info.Info.TheViews.{out-Info}
 use Rattle.fancy_info.specs.Infos.{info_tree, info_children, info_within, node_over, absent_over}
 use Rattle.fancy_characters.specs.Classes.{IsClassRefusal}
 use Rattle.fancy_expr.specs.declared.error.Error.{Error}
-use Rattle.fancy_plain.specs.ClassTexts.{HasClass, itself, below, AreClasses, IsRefusal, texts_in}
-use Rattle.fancy_plain.specs.Nfas.{HaveClasses, IsRefusedFor}
+use Rattle.fancy_nfa.specs.ClassTexts.{HasClass, itself, below, AreClasses, IsRefusal, texts_in}
+use Rattle.fancy_nfa.specs.Nfas.{HaveClasses, IsRefusedFor}
 use Rattle.fancy_code.specs.Batches.{Collects}
 use Rattle.fancy_code.specs.Neighbours.{IsMadeOf}
 use Rattle.fancy_info.proofs.Children.{only_one, tree_by}

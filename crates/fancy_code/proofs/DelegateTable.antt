@@ -7,8 +7,8 @@ use Rattle.fancy_meaning.specs.Batches.{fragment, group_range, pattern_of}
 use Rattle.fancy_meaning.specs.Instr.{Instr, Fragment}
 use Rattle.fancy_info.specs.declared.info.Info.{Info}
 use Rattle.fancy_info.specs.Infos.{info_tree}
-use Rattle.fancy_plain.specs.ClassTexts.{AreClasses, texts_in}
-use Rattle.fancy_plain.specs.Nfas.{HaveClasses}
+use Rattle.fancy_nfa.specs.ClassTexts.{AreClasses, texts_in}
+use Rattle.fancy_nfa.specs.Nfas.{HaveClasses}
 use Rattle.fancy_fragments.specs.declared.delegate.Delegate.{Delegate}
 use Rattle.fancy_code.specs.SharedDelegates.{IsNamed, IsNamedAlike, AreNamedAlike, IsDelegateOf, delegate_of}
 

@@ -21,10 +21,10 @@ use Rattle.fancy_expr.specs.declared.error.Error.TheVariants as error
 use Rattle.fancy_expr.specs.Each.{Each}
 use Rattle.fancy_info.specs.declared.info.Info.{Info}
 use Rattle.fancy_info.specs.Infos.{info_tree}
-use Rattle.fancy_plain.specs.ClassTexts as classes
-use Rattle.fancy_plain.specs.ClassTexts.{HasClass, AreClasses, texts_of, texts_in}
-use Rattle.fancy_plain.specs.Neighbours.{IsEasy, trees_of}
-use Rattle.fancy_plain.specs.Nfas.{AreFine, HaveClasses, IsRefusedFor}
+use Rattle.fancy_nfa.specs.ClassTexts as classes
+use Rattle.fancy_nfa.specs.ClassTexts.{HasClass, AreClasses, texts_of, texts_in}
+use Rattle.fancy_nfa.specs.Neighbours.{IsEasy, trees_of}
+use Rattle.fancy_nfa.specs.Nfas.{AreFine, HaveClasses, IsRefusedFor}
 use Rattle.fancy_code.specs.Sites.{Site}
 use Rattle.fancy_code.specs.Faults.{IsBelow, itself, below, through, Rejects, MayReject, rejected, too_big, refused, out_of_range, refused_as, StayWithin, AreCompilable, HasRejected}
 use Rattle.fancy_code.specs.Drafts.{Draft, Breaks, Writes}

@@ -8,7 +8,7 @@ use Rattle.fancy_expr.specs.Each.{Each}
 use Rattle.fancy_expr.specs.declared.error.Error.{Error}
 use Rattle.fancy_info.specs.declared.info.Info.{Info}
 use Rattle.fancy_info.specs.Infos.{info_tree}
-use Rattle.fancy_plain.specs.Neighbours.{IsEasy}
+use Rattle.fancy_nfa.specs.Neighbours.{IsEasy}
 use Rattle.fancy_program.specs.Insns.{insn_of}
 use Rattle.fancy_program.specs.declared.insn.Insn.{Insn}
 use Rattle.fancy_code.specs.Drafts.{Draft, Writes}

@@ -2,7 +2,7 @@
 use Rattle.std.specs.Prelude.{Bool, List, Result, IfOk, IfErr}
 use Rattle.fancy_expr.specs.declared.error.Error.{Error}
 use Rattle.fancy_info.specs.declared.info.Info.{Info}
-use Rattle.fancy_plain.specs.Nfas.{HaveClasses, IsRefusedFor}
+use Rattle.fancy_nfa.specs.Nfas.{HaveClasses, IsRefusedFor}
 
 -- Something is made of neighbouring easy nodes, each of whose class texts is a class;
 -- or there is the error with which they are refused.

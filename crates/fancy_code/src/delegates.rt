@@ -4,7 +4,7 @@ ghost use Rattle.std.specs.List.{slice_get};
 ghost use Rattle.std.specs.Prelude.{◌≡◌, IfErr, IfSome, map, option_map, string_bytes};
 ghost use Rattle.fancy_meaning.specs.Batches.{pattern_of};
 ghost use Rattle.fancy_info.specs.Infos.{info_facts, info_tree};
-ghost use Rattle.fancy_plain.specs.Searches.{IsMemory};
+ghost use Rattle.fancy_nfa.specs.Searches.{IsMemory};
 ghost use Rattle.fancy_fragments.specs.Delegates.{delegate_instr};
 ghost use Rattle.fancy_fragments.specs.Nodes.{AreEasyNeighbours};
 ghost use Rattle.fancy_code.specs.Neighbours.{IsMadeOf};

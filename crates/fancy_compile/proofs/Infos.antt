@@ -14,8 +14,8 @@ use Rattle.fancy_info.specs.Infos.{info_tree, info_children, info_facts, info_ha
 use Rattle.fancy_info.proofs.Children.{each_at, only_one, node_count-below, child_count}
 use Rattle.fancy_info.proofs.Unfolded.{tree_out, each_made}
 use Rattle.fancy_expr.specs.Walk.{start_inside, within_inside}
-use Rattle.fancy_plain.specs.Neighbours.{IsEasy}
-use Rattle.fancy_plain.specs.Nfas.{AreFine}
+use Rattle.fancy_nfa.specs.Neighbours.{IsEasy}
+use Rattle.fancy_nfa.specs.Nfas.{AreFine}
 use Rattle.fancy_fragments.specs.Nodes.{AreEasyNeighbours}
 use Rattle.fancy_compile.specs.declared.scope.Scope.{Scope}
 use Rattle.fancy_info.specs.NodeCounts.{node_count, node_counts}

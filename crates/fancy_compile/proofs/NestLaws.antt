@@ -20,7 +20,7 @@ use Rattle.fancy_info.specs.Infos.{nth, node_over, absent_over, info_tree, info_
 use Rattle.fancy_info.proofs.Children.{rest_at}
 use Rattle.fancy_info.proofs.OverParts.{over-parts}
 use Rattle.fancy_info.proofs.Unfolded.{tree_out, each_below}
-use Rattle.fancy_plain.specs.Neighbours.{IsEasy}
+use Rattle.fancy_nfa.specs.Neighbours.{IsEasy}
 use Rattle.fancy_code.specs.Faults.{too_deep, StayWithin, HasRejected}
 use Rattle.fancy_code.specs.Nesting.{NestsDeeper, NestsOver, alone, over_part, over_called}
 use Rattle.fancy_code.specs.Sites.{Site}

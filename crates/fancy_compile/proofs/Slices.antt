@@ -10,8 +10,8 @@ use Rattle.fancy_info.specs.declared.info.Info.{Info}
 use Rattle.fancy_info.specs.declared.info.Info.TheViews.{out-Info}
 use Rattle.fancy_info.specs.Infos.{info_tree, info_hard, AreInTurn, IsAnalysed}
 use Rattle.fancy_expr.specs.Each.{Each}
-use Rattle.fancy_plain.specs.Neighbours.{IsEasy}
-use Rattle.fancy_plain.specs.Nfas.{AreFine}
+use Rattle.fancy_nfa.specs.Neighbours.{IsEasy}
+use Rattle.fancy_nfa.specs.Nfas.{AreFine}
 use Rattle.fancy_fragments.specs.Nodes.{AreEasyNeighbours}
 use Rattle.fancy_compile.specs.declared.scope.Scope.{Scope}
 use Rattle.fancy_info.specs.NodeCounts.{node_counts}

@@ -13,8 +13,8 @@ use Rattle.fancy_meaning.specs.Marks.{takes_nothing, marked_groups}
 use Rattle.fancy_meaning.specs.Layout.{called_code}
 use Rattle.fancy_meaning.specs.Nodes.{groups}
 use Rattle.fancy_meaning.specs.Batches.{batch}
-use Rattle.fancy_plain.specs.Neighbours.{IsEasy}
-use Rattle.fancy_plain.specs.Nfas.{AreFine}
+use Rattle.fancy_nfa.specs.Neighbours.{IsEasy}
+use Rattle.fancy_nfa.specs.Nfas.{AreFine}
 use Rattle.fancy_meaning.specs.OpenCalls.{Depths, free_calls}
 use Rattle.fancy_meaning.specs.Sizes.{size}
 use Rattle.fancy_meaning.specs.Options.{Analysis}

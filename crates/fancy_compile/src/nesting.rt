@@ -7,7 +7,7 @@ ghost use Rattle.fancy_info.specs.Infos.{info_tree};
 ghost use Rattle.fancy_meaning.specs.OpenCalls.{Depths};
 ghost use Rattle.fancy_meaning.specs.Options.{Analysis};
 ghost use Rattle.fancy_meaning.specs.Tree.{Tree};
-ghost use Rattle.fancy_plain.specs.Neighbours.{IsEasy};
+ghost use Rattle.fancy_nfa.specs.Neighbours.{IsEasy};
 ghost use Rattle.std.specs.Prelude.{false, true, ◌≡◌};
 
 use fancy_expr::expr::Expr;

@@ -6,7 +6,7 @@ use Rattle.fancy_meaning.specs.Tree.{Tree, Trees, none, more, Concat, Alt, Group
 use Rattle.fancy_meaning.specs.Options.{Analysis}
 use Rattle.fancy_meaning.specs.Sizes.{Known, known_of, sum_of, any_of, times, size_by, each_size}
 use Rattle.fancy_meaning.specs.FragmentStates.{loop_counts, states, states_of_each, fragment_states, visit_bound}
-use Rattle.fancy_nfa.specs.FirstWays.{AreEasy}
+use Rattle.fancy_nfa_laws.specs.FirstWays.{AreEasy}
 use Rattle.fancy_delegation.proofs.EasyNodes.{IsEasy, AllEasy, easy_group, easy_repeat, easy_concat, easy_alt, easy_each}
 
 module _ (a : Analysis) where

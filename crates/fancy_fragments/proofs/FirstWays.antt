@@ -9,18 +9,18 @@ use Rattle.fancy_meaning.specs.Options.{Analysis}
 use Rattle.fancy_meaning.specs.Tree.{Tree}
 use Rattle.fancy_meaning.specs.MatchState.{Span}
 use Rattle.fancy_meaning.specs.Ways.{Setting}
-use Rattle.fancy_nfa.specs.FirstWays.{Seen, first_seen}
+use Rattle.fancy_nfa_laws.specs.FirstWays.{Seen, first_seen}
 use Rattle.fancy_joining.specs.JoinedLoops.{joined}
 use Rattle.fancy_joining.proofs.JoinedNodes.{joining_keeps_nodes}
-use Rattle.fancy_plain.specs.declared.nfa.Nfa.{Nfa}
-use Rattle.fancy_plain.specs.declared.first_way.FirstWay.{FirstWay}
-use Rattle.fancy_plain.specs.declared.first_way.Way.{Way}
-use Rattle.fancy_plain.specs.declared.one_pass.OnePass.{OnePass}
-use Rattle.fancy_plain.specs.declared.one_pass.OnePass.TheVariants as one_pass
-use Rattle.fancy_plain.specs.OnePass.{IsOnePass, IsOnePassWay, IsSeenWay}
-use Rattle.fancy_plain.specs.Nfas.{IsNfaOf}
-use Rattle.fancy_plain.specs.Ways.{CountsVisits, HasNoWayAt, IsFirstWay, IsMemoOf, IsOfNodes, IsSeenAs}
-use Rattle.fancy_nfa.specs.NfaSearch.{Pair}
+use Rattle.fancy_nfa.specs.declared.nfa.Nfa.{Nfa}
+use Rattle.fancy_nfa.specs.declared.first_way.FirstWay.{FirstWay}
+use Rattle.fancy_nfa.specs.declared.first_way.Way.{Way}
+use Rattle.fancy_nfa.specs.declared.one_pass.OnePass.{OnePass}
+use Rattle.fancy_nfa.specs.declared.one_pass.OnePass.TheVariants as one_pass
+use Rattle.fancy_nfa.specs.OnePass.{IsOnePass, IsOnePassWay, IsSeenWay}
+use Rattle.fancy_nfa.specs.Nfas.{IsNfaOf}
+use Rattle.fancy_nfa.specs.Ways.{CountsVisits, HasNoWayAt, IsFirstWay, IsMemoOf, IsOfNodes, IsSeenAs}
+use Rattle.fancy_nfa_laws.specs.NfaSearch.{Pair}
 use Rattle.fancy_backtrack.specs.declared.memo.Memo.{Memo}
 use Rattle.fancy_backtrack.specs.Memos.{HaveFailed}
 use Rattle.fancy_fragments.specs.declared.fragment.Fragment.{Fragment}

@@ -11,9 +11,9 @@ use Rattle.fancy_expr.proofs.Walks.{taken}
 use Rattle.fancy_info.specs.declared.info.Info.{Info}
 use Rattle.fancy_info.specs.Infos.{info_tree, AreInTurn, IsAnalysed}
 use Rattle.fancy_joining.specs.JoinedLoops.{joined}
-use Rattle.fancy_plain.specs.declared.nfa.Nfa.{Nfa}
-use Rattle.fancy_plain.specs.Neighbours.{IsEasy}
-use Rattle.fancy_plain.specs.Nfas.{AreFine, IsNfaOf}
+use Rattle.fancy_nfa.specs.declared.nfa.Nfa.{Nfa}
+use Rattle.fancy_nfa.specs.Neighbours.{IsEasy}
+use Rattle.fancy_nfa.specs.Nfas.{AreFine, IsNfaOf}
 use Rattle.fancy_fragments.specs.Nodes.{AreEasyNeighbours, BeginAt, IsLaidOut, IsOfJoined, fits_over, nodes_over, plain_tree}
 use Rattle.fancy_fragments.specs.Settable.{settable_above}
 use Rattle.fancy_fragments.proofs.Numbered.{are_numbered}

@@ -7,8 +7,8 @@ use Rattle.fancy_meaning.specs.MatchState.{MatchState, Ways, fails, first_state,
 use Rattle.fancy_meaning.specs.Nodes.{group_count}
 use Rattle.fancy_meaning.specs.Numbering.{each_numbered, numbered_within}
 use Rattle.fancy_meaning.specs.Ways.{Setting, each_ways, ways_with}
-use Rattle.fancy_nfa.specs.FirstWays.{seen, first_seen, ways_of_nodes}
-use Rattle.fancy_plain.specs.Ways.{IsSeenAs}
+use Rattle.fancy_nfa_laws.specs.FirstWays.{seen, first_seen, ways_of_nodes}
+use Rattle.fancy_nfa.specs.Ways.{IsSeenAs}
 use Rattle.fancy_expr.specs.Exprs.{below}
 use Rattle.fancy_expr.specs.Views.{tree_of}
 use Rattle.fancy_expr.specs.declared.expr.Expr.{Expr}

@@ -2,7 +2,7 @@
 use denote.Param.Send.{IsSend, IsSync, sendable}
 use Rattle.std.proofs.Crossing as std
 use Rattle.fancy_expr.proofs.expr.Absent.TheLaws.TheKnot as expr
-use Rattle.fancy_plain.proofs.ThreadsLaws.{nfa_sends, nfa_syncs}
+use Rattle.fancy_nfa.proofs.ThreadsLaws.{nfa_sends, nfa_syncs}
 use Rattle.fancy_fragments.specs.contracts.fragment.Fragment as Fragment
 use Rattle.fancy_fragments.specs.contracts.delegate.Delegate as Delegate
 

@@ -6,15 +6,15 @@ use Rattle.fancy_meaning.specs.Instr as plain
 use Rattle.fancy_meaning.specs.Options.{Analysis}
 use Rattle.fancy_meaning.specs.FragmentStates.{visit_bound}
 use Rattle.fancy_meaning.specs.MatchState.{Span}
-use Rattle.fancy_nfa.specs.FirstWays.{AreEasy, first_seen}
+use Rattle.fancy_nfa_laws.specs.FirstWays.{AreEasy, first_seen}
 use Rattle.fancy_expr.specs.Walk.{within_of}
-use Rattle.fancy_plain.specs.declared.first_way.FirstWay.{FirstWay}
+use Rattle.fancy_nfa.specs.declared.first_way.FirstWay.{FirstWay}
 use Rattle.fancy_backtrack.specs.declared.memo.Memo.{Memo}
-use Rattle.fancy_plain.specs.declared.nfa.Nfa.{Nfa}
-use Rattle.fancy_plain.specs.declared.one_pass.OnePass.{OnePass}
-use Rattle.fancy_plain.specs.declared.one_pass.OnePass.TheVariants as one_pass
-use Rattle.fancy_plain.specs.OnePass.{IsSeenWay}
-use Rattle.fancy_plain.specs.Ways.{IsMemoOf, IsSeenAs}
+use Rattle.fancy_nfa.specs.declared.nfa.Nfa.{Nfa}
+use Rattle.fancy_nfa.specs.declared.one_pass.OnePass.{OnePass}
+use Rattle.fancy_nfa.specs.declared.one_pass.OnePass.TheVariants as one_pass
+use Rattle.fancy_nfa.specs.OnePass.{IsSeenWay}
+use Rattle.fancy_nfa.specs.Ways.{IsMemoOf, IsSeenAs}
 use Rattle.fancy_fragments.specs.declared.fragment.Fragment.{Fragment}
 use Rattle.fancy_fragments.specs.Nodes.{nodes_over}
 

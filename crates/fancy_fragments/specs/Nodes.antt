@@ -10,10 +10,10 @@ use Rattle.fancy_expr.specs.Views.{tree_of}
 use Rattle.fancy_expr.specs.Each.{Each}
 use Rattle.fancy_info.specs.declared.info.Info.{Info}
 use Rattle.fancy_info.specs.Infos.{info_tree, info_expr, info_within, info_facts, AreInTurn, IsAnalysed}
-use Rattle.fancy_plain.specs.declared.nfa.Nfa.{Nfa}
+use Rattle.fancy_nfa.specs.declared.nfa.Nfa.{Nfa}
 use Rattle.fancy_joining.specs.JoinedLoops.{joined}
-use Rattle.fancy_plain.specs.Neighbours.{IsEasy}
-use Rattle.fancy_plain.specs.Nfas.{AreFine, IsNfaOf}
+use Rattle.fancy_nfa.specs.Neighbours.{IsEasy}
+use Rattle.fancy_nfa.specs.Nfas.{AreFine, IsNfaOf}
 
 -- well-formed nodes of one analysed tree, each behind the other, none of them hard
 pub record AreEasyNeighbours (is : List Info) : Type 0 where

@@ -4,8 +4,8 @@ ghost use Rattle.std.specs.Prelude.{◌≡◌, ◌==◌, Bool, None, Some, IfOk,
 ghost use Rattle.fancy_meaning.specs.Batches.{fragment, group_range, pattern_of};
 ghost use Rattle.fancy_meaning.specs.Instr as plain;
 ghost use Rattle.fancy_info.specs.Infos.{info_tree};
-ghost use Rattle.fancy_plain.specs.Searches.{IsMemory};
-ghost use Rattle.fancy_plain.specs.Nfas.{HaveClasses, IsRefusedFor};
+ghost use Rattle.fancy_nfa.specs.Searches.{IsMemory};
+ghost use Rattle.fancy_nfa.specs.Nfas.{HaveClasses, IsRefusedFor};
 ghost use Rattle.fancy_fragments.specs.Delegates.{delegate_instr, range_of};
 ghost use Rattle.fancy_fragments.specs.Fragments.{fragment_of};
 ghost use Rattle.fancy_fragments.specs.Nodes.{AreEasyNeighbours};

@@ -2,16 +2,16 @@
 
 ghost use Rattle.std.specs.Prelude.{◌≡◌, ◌≤◌, Bool, false, IfOk, IfErr, IsTrue};
 ghost use Rattle.fancy_meaning.specs.Places.{is_place};
-ghost use Rattle.fancy_nfa.specs.NfaSearch.{Pair};
+ghost use Rattle.fancy_nfa_laws.specs.NfaSearch.{Pair};
 ghost use Rattle.fancy_backtrack.specs.Memos.{HaveFailed};
-ghost use Rattle.fancy_plain.specs.Searches.{IsMemory};
-ghost use Rattle.fancy_plain.specs.Ways.{CountsVisits, HasAscending};
+ghost use Rattle.fancy_nfa.specs.Searches.{IsMemory};
+ghost use Rattle.fancy_nfa.specs.Ways.{CountsVisits, HasAscending};
 ghost use Rattle.fancy_fragments.specs.Fragments.{IsFirstWayOf, IsJoinedMemoFor, IsMemoFor, joined_nfa};
 
 use crate::fragment::Fragment;
 use fancy_backtrack::memo::Memo;
 use fancy_expr::error::Error;
-use fancy_plain::first_way::FirstWay;
+use fancy_nfa::first_way::FirstWay;
 use std::alloc::Global;
 
 /// The first way of the fragment from `ix`, a character boundary of the text. `Memory` where a request for memory was
@@ -52,7 +52,7 @@ pub fn first_way_with(
     ensures budget { memo.new.budget ≡ memo.old.budget }
     ensures refused { IfErr result IsMemory }
 {
-    fancy_plain::first_way::first_way_with(alloc, &fragment.nfa, text, ix, memo)
+    fancy_nfa::first_way::first_way_with(alloc, &fragment.nfa, text, ix, memo)
 }
 
 /// As `first_way_with`, by the nodes with their loops joined where loops in loops only add up: the same way, and as
@@ -75,5 +75,5 @@ pub fn first_way_joined(
     ensures budget { memo.new.budget ≡ memo.old.budget }
     ensures refused { IfErr result IsMemory }
 {
-    fancy_plain::first_way::first_way_with(alloc, fragment.joined_nfa(), text, ix, memo)
+    fancy_nfa::first_way::first_way_with(alloc, fragment.joined_nfa(), text, ix, memo)
 }

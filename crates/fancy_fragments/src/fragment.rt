@@ -8,11 +8,11 @@ ghost use Rattle.fancy_expr.specs.Views.{tree_of};
 ghost use Rattle.fancy_expr.specs.Walk.{within_of};
 ghost use Rattle.fancy_info.specs.Infos.{info_tree};
 ghost use Rattle.fancy_meaning.specs.MatchState.{Span};
-ghost use Rattle.fancy_plain.specs.OnePass.{IsOnePass, IsOnePassWay};
-ghost use Rattle.fancy_plain.specs.Neighbours.{AreNeighbours};
-ghost use Rattle.fancy_plain.specs.Nfas.{HaveClasses, IsRefusedFor};
+ghost use Rattle.fancy_nfa.specs.OnePass.{IsOnePass, IsOnePassWay};
+ghost use Rattle.fancy_nfa.specs.Neighbours.{AreNeighbours};
+ghost use Rattle.fancy_nfa.specs.Nfas.{HaveClasses, IsRefusedFor};
 ghost use Rattle.fancy_backtrack.specs.Memos.{HaveFailed};
-ghost use Rattle.fancy_plain.specs.Ways.{HasNoWayAt, IsOfNodes};
+ghost use Rattle.fancy_nfa.specs.Ways.{HasNoWayAt, IsOfNodes};
 ghost use Rattle.fancy_fragments.specs.Nodes.{AreEasyNeighbours, BeginAt, IsLaidOut, IsOfJoined, fits_over, nodes_over, plain_tree};
 
 use crate::copies::copy_of;
@@ -22,8 +22,8 @@ use fancy_expr::error::Error;
 use fancy_expr::expr::Expr;
 use fancy_expr::walk::Within;
 use fancy_info::info::Info;
-use fancy_plain::nfa::Nfa;
-use fancy_plain::one_pass::OnePass;
+use fancy_nfa::nfa::Nfa;
+use fancy_nfa::one_pass::OnePass;
 use std::alloc::{AllocError, Global};
 use std::fmt;
 

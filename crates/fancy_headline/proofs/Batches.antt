@@ -20,7 +20,7 @@ use Rattle.fancy_composed.proofs.Parts.{at_place, moves_at, setting, whole, Simu
 use Rattle.fancy_composed.proofs.Simulates.{simulates_as, simulates_nothing, simulates_moves}
 use Rattle.fancy_composed.proofs.Atoms.{simulates_any, simulates_class}
 use Rattle.fancy_composed.proofs.Ready.{Ready}
-use Rattle.fancy_headline.proofs.Literals.{Chars, past_all, bytes_of_all, joined_parts, list_takes_chars}
+use Rattle.fancy_headline.proofs.Literals.{Chars, skip_all, bytes_of_all, joined_parts, list_takes_chars}
 use Rattle.fancy_headline.proofs.Nameless.{list_stays}
 use Rattle.fancy_headline.proofs.Delegates.{IsSteady, IsNumbered, simulates_delegate}
 
@@ -64,7 +64,7 @@ module _ (w : Ground) (r : Ready w) where
 
   simulates_chars : (cs : Chars) → Scalars cs →
       Simulates w (code.one (literal_instr (w.plan).unicode cs))
-      (λ s. at_place s (past_all (w.plan).unicode (w.task).text cs s.place))
+      (λ s. at_place s (skip_all (w.plan).unicode (w.task).text cs s.place))
   simulates_chars cs ok = by_fold (list_any (λ c. c.1) cs) refl
     where
       text : List ℕ
@@ -75,12 +75,12 @@ module _ (w : Ground) (r : Ready w) where
 
       by_fold : (v : Bool) → list_any (λ c. c.1) cs ≡ v →
           Simulates w (code.one (if v then Instr.LitCasei cs unicode else Instr.Lit (encode_utf8_all (map (λ c. c.0) cs))))
-          (λ s. at_place s (past_all unicode text cs s.place))
+          (λ s. at_place s (skip_all unicode text cs s.place))
       by_fold true e =
-          simulates_moves w (Instr.LitCasei cs unicode) (λ s. past_all unicode text cs s.place)
+          simulates_moves w (Instr.LitCasei cs unicode) (λ s. skip_all unicode text cs s.place)
           (λ s slots a marks bs count so st. refl)
       by_fold false e =
-          simulates_as w (λ s. at_place s (past_all unicode text cs s.place))
+          simulates_as w (λ s. at_place s (skip_all unicode text cs s.place))
           (simulates_moves w (Instr.Lit (encode_utf8_all (map (λ c. c.0) cs)))
           (λ s. past_bytes text (encode_utf8_all (map (λ c. c.0) cs)) s.place) (λ s slots a marks bs count so st. refl))
           (λ s so. ap (at_place s) (bytes_of_all unicode text cs s.place e ok))
@@ -107,7 +107,7 @@ module _ (w : Ground) (r : Ready w) where
         (λ s so.
         sym
         (ap (take 1) (list_takes_chars (setting w) meant es cs e s)
-        ∙ first_place s (past_all (w.plan).unicode (w.task).text cs s.place)))
+        ∙ first_place s (skip_all (w.plan).unicode (w.task).text cs s.place)))
 
     -- a node alone, that takes one character
     alone : (e : Tree) (f : ℕ → Option ℕ) (c : Code) →

@@ -23,8 +23,8 @@ module _ (unicode : Bool) (text : List ℕ) where
   test_of d = literal_takes unicode d.0 d.1
 
   -- past all of them
-  abbrev pub past_all : Chars → ℕ → Option ℕ
-  past_all cs i = past_chars text (map test_of cs) i
+  abbrev pub skip_all : Chars → ℕ → Option ℕ
+  skip_all cs i = past_chars text (map test_of cs) i
 
   same_onward : (f g : ℕ → Option ℕ) → ((i : ℕ) → f i ≡ g i) → (o : Option ℕ) → option_and_then f o ≡ option_and_then g o
   same_onward f g e None = refl
@@ -32,14 +32,14 @@ module _ (unicode : Bool) (text : List ℕ) where
 
   -- unfolded ones by their bytes
   pub bytes_of_all : (cs : Chars) (i : ℕ) → list_any (λ c. c.1) cs ≡ false → Every (λ c. IsScalar c.0) cs →
-      past_bytes text (encode_utf8_all (map (λ c. c.0) cs)) i ≡ past_all cs i
+      past_bytes text (encode_utf8_all (map (λ c. c.0) cs)) i ≡ skip_all cs i
   bytes_of_all [] i e no_item =
       bytes_stand text [] i (has_bytes_at_from text i [] _ refl) ∙ ap Some (let z : i + 0 ≡ i = omega arith in z)
   bytes_of_all ((c, true) ∷ cs) i e (item k ks) = cc
   bytes_of_all ((c, false) ∷ cs) i e (item k ks) =
       bytes_append text (encode_utf8 c) (encode_utf8_all (map (λ d. d.0) cs)) i
       ∙ ap (option_and_then (past_bytes text (encode_utf8_all (map (λ d. d.0) cs)))) (char_by_bytes text c i k)
-      ∙ same_onward (past_bytes text (encode_utf8_all (map (λ d. d.0) cs))) (past_all cs) (λ j. bytes_of_all cs j e ks)
+      ∙ same_onward (past_bytes text (encode_utf8_all (map (λ d. d.0) cs))) (skip_all cs) (λ j. bytes_of_all cs j e ks)
       (past_char text (nat_eq c) i)
 
 -- ---- the characters of nodes
@@ -66,8 +66,8 @@ module _ (q : Setting) (call : ℕ → Ways) where
 
   -- neighbours that are literal take their characters
   pub list_takes_chars : (es : List Tree) (cs : Chars) → all_joined (map literal_chars es) ≡ Some cs → (s : MatchState) →
-      in_order (map (ways_with q call) es) s ≡ at_place s (past_all q.unicode q.text cs s.place)
+      in_order (map (ways_with q call) es) s ≡ at_place s (skip_all q.unicode q.text cs s.place)
   list_takes_chars es cs e s =
       ap (λ fs. in_order fs s) (sym (each_ways_of es))
       ∙ each_literal_way q call (trees es) cs (ap all_joined (each_literal_of es) ∙ e) s
-      ∙ moves_at q (past_all q.unicode q.text cs) s (past_all q.unicode q.text cs s.place) refl
+      ∙ moves_at q (skip_all q.unicode q.text cs) s (skip_all q.unicode q.text cs s.place) refl

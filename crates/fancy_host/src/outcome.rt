@@ -6,7 +6,7 @@ ghost use Rattle.fancy_host.specs.Hosted as hosted;
 ghost use Rattle.fancy_host.specs.Whether.{whether};
 
 use crate::writing::{write_over, write_text};
-use fancy_characters::places::past_any;
+use fancy_characters::places::skip_any;
 use fancy_expr::error::{CompileError, Error, RuntimeError};
 use fancy_pattern::error::{ErrorKind, PatternError};
 use fancy_scanner::scan_limit::ScanLimit;
@@ -222,7 +222,7 @@ pub fn next_start(text: &[u8], numbers: &[usize]) -> usize
         return usize::MAX;
     };
     if start == end {
-        past_any(text, true, false, *end).unwrap_or(end.saturating_add(1))
+        skip_any(text, true, false, *end).unwrap_or(end.saturating_add(1))
     } else {
         *end
     }

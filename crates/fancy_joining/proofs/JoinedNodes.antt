@@ -13,7 +13,7 @@ use Rattle.fancy_meaning.specs.Sizes.{size, known_of}
 use Rattle.fancy_meaning.specs.FragmentStates.{loop_counts, states, states_of_each, fragment_states, visit_bound}
 use Rattle.fancy_laws.proofs.Every.{Every, no_item, item, every_append, every_append_parts, every_weaker, every_contained, every_contains}
 use Rattle.fancy_delegation.proofs.EasyNodes.{IsEasy, AllEasy, easy_group, easy_repeat, easy_concat, easy_alt, easy_each}
-use Rattle.fancy_nfa.specs.FirstWays.{AreEasy}
+use Rattle.fancy_nfa_laws.specs.FirstWays.{AreEasy}
 use Rattle.fancy_joining.specs.JoinedLoops.{Bounds, loop_over, are_joined, joins, product, joined_bounds, joined_in, each_joined, joined}
 use Rattle.fancy_joining.specs.Claims.{JoiningKeepsNodes}
 use Rattle.fancy_joining.proofs.JoinedWays.{they_add_up, by_test, same_first}

@@ -6,7 +6,7 @@ use Rattle.fancy_meaning.specs.Tree.{Tree, Trees, none, more, Concat, Alt, Group
 use Rattle.fancy_meaning.specs.MatchState.{MatchState, Ways, fails, in_order, one_of, with_span, first_state}
 use Rattle.fancy_meaning.specs.Loops.{required, prefer, at_most, if_moved, unbounded, repeats}
 use Rattle.fancy_meaning.specs.Ways.{Setting, ways_with, each_ways}
-use Rattle.fancy_nfa.specs.FirstWays.{first_seen, ways_of_nodes, seen}
+use Rattle.fancy_nfa_laws.specs.FirstWays.{first_seen, ways_of_nodes, seen}
 use Rattle.fancy_joining.specs.JoinedLoops.{Bounds, loop_over, adds_up, are_joined, joins, product, joined_bounds, joined_in, each_joined, joined}
 use Rattle.fancy_joining.proofs.FindAlike.{Alike, alike_itself, alike_back, alike_then, alike_append, alike_map, alike_flat_map, alike_first}
 use Rattle.fancy_joining.proofs.AddedLoops.{loops_of_most, most_of_some, once_of_some}

@@ -4,7 +4,7 @@ use Rattle.fancy_meaning.specs.Tree.{Tree}
 use Rattle.fancy_meaning.specs.Options.{Analysis}
 use Rattle.fancy_meaning.specs.FragmentStates.{visit_bound}
 use Rattle.fancy_meaning.specs.Ways.{Setting}
-use Rattle.fancy_nfa.specs.FirstWays.{AreEasy, first_seen}
+use Rattle.fancy_nfa_laws.specs.FirstWays.{AreEasy, first_seen}
 use Rattle.fancy_joining.specs.JoinedLoops.{joined}
 
 pub record KeepsNodes (may_join : Bool) (es : List Tree) : Type 0 where

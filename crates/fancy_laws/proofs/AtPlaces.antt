@@ -49,7 +49,7 @@ place_motion q utf8 Kept kept_there = record {
   arrives = λ s t good step. step.there;
   stays = λ s good. record { on = omega arith; there = good };
   onward = λ s t u good one two. record { on = omega (arith, one.on, two.on); there = two.there };
-  past_one = λ test s i good e.
+  skip_one = λ test s i good e.
       let m = past_char_moves q.text utf8 test s.place i good.place e in
       moves_to q.text Kept s i good m.on m.to;
   past_line = λ unicode s i good e.

@@ -32,7 +32,7 @@ forward_motion q = record {
   arrives = λ s t good step. step.within;
   stays = λ s good. record { on = omega arith; within = good };
   onward = λ s t u good one two. record { on = omega (arith, one.on, two.on); within = two.within };
-  past_one = λ test s i good e. let f = past_char_fits q.text test s.place i e in record { on = f.0; within = f.1 };
+  skip_one = λ test s i good e. let f = past_char_fits q.text test s.place i e in record { on = f.0; within = f.1 };
   past_line = λ unicode s i good e. let f = past_newline_fits q.text unicode s.place i good e in record { on = f.0; within = f.1 };
   past_group = λ g span casei s i good set e.
       let f = past_piece_fits q.text q.unicode casei span s.place i good e in

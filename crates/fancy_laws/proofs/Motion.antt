@@ -20,7 +20,7 @@ pub record IsMotion (q : Setting) (Good : MatchState → Type 0) (Step : MatchSt
   pub arrives : (s t : MatchState) → Good s → Step s t → Good t
   pub stays : (s : MatchState) → Good s → Step s s
   pub onward : (s t u : MatchState) → Good s → Step s t → Step t u → Step s u
-  pub past_one : (test : ℕ → Bool) (s : MatchState) (i : ℕ) → Good s → past_char q.text test s.place ≡ Some i →
+  pub skip_one : (test : ℕ → Bool) (s : MatchState) (i : ℕ) → Good s → past_char q.text test s.place ≡ Some i →
       Step s (moved_to i s)
   pub past_line : (unicode : Bool) (s : MatchState) (i : ℕ) → Good s → past_newline q.text unicode s.place ≡ Some i →
       Step s (moved_to i s)
@@ -49,7 +49,7 @@ module _ {q : Setting} {Good : MatchState → Type 0} {Step : MatchState → Mat
   past_many [] s i good e = subst (λ j. Step s (moved_to j s)) (same_Some _ _ e) (m.stays s good)
   past_many (test ∷ tests) s i good e =
       option_and_then_some (past_chars q.text tests) (past_char q.text test s.place) i e
-      (λ j one rest. let step = m.past_one test s j good one in
+      (λ j one rest. let step = m.skip_one test s j good one in
       m.onward s (moved_to j s) (moved_to i s) good step
       (past_many tests (moved_to j s) i (m.arrives s (moved_to j s) good step) rest))
 
@@ -71,15 +71,15 @@ module _ {q : Setting} {Good : MatchState → Type 0} {Step : MatchState → Mat
       every_way_leads ContinueFromPreviousMatchEnd s good =
           every_stays_if (λ t. q.continued && t.place == q.pos) s (λ e. m.stays s good)
       every_way_leads (Any newline crlf) s good =
-          every_moves q (past_char q.text (any_takes newline crlf)) s (λ i. m.past_one (any_takes newline crlf) s i good)
+          every_moves q (past_char q.text (any_takes newline crlf)) s (λ i. m.skip_one (any_takes newline crlf) s i good)
       every_way_leads (Literal c casei) s good =
           every_moves q (past_char q.text (literal_takes q.unicode c casei)) s
-          (λ i. m.past_one (literal_takes q.unicode c casei) s i good)
+          (λ i. m.skip_one (literal_takes q.unicode c casei) s i good)
       every_way_leads (LiteralBytes cs) s good =
           every_moves q (past_chars q.text (map nat_eq cs)) s (λ i. past_many (map nat_eq cs) s i good)
       every_way_leads (Delegate inner casei) s good =
           every_moves q (past_char q.text (class_takes q.unicode inner casei)) s
-          (λ i. m.past_one (class_takes q.unicode inner casei) s i good)
+          (λ i. m.skip_one (class_takes q.unicode inner casei) s i good)
       every_way_leads (GeneralNewline unicode) s good =
           every_moves q (past_newline q.text unicode) s (λ i. m.past_line unicode s i good)
       every_way_leads (Assert within a) s good =

@@ -37,14 +37,14 @@ first_byte c scalar =
         ascii = λ small. refl;
         beyond = λ large. large;
       }
-      | inr past_one ↦ elim (cases_lt c 0x800) [
+      | inr skip_one ↦ elim (cases_lt c 0x800) [
         | inl two ↦ record {
           byte = 192 + c / 64;
           rest = _;
-          is = encode_two c past_one two;
+          is = encode_two c skip_one two;
           below = omega (arith, two);
           ascii = λ small. absurd (omega (arith, small));
-          beyond = λ large. past_one;
+          beyond = λ large. skip_one;
         }
         | inr past_two ↦ elim (cases_lt c 0x1_0000) [
           | inl three ↦ record {
@@ -53,7 +53,7 @@ first_byte c scalar =
             is = encode_three c past_two three;
             below = omega (arith, three);
             ascii = λ small. absurd (omega (arith, small));
-            beyond = λ large. past_one;
+            beyond = λ large. skip_one;
           }
           | inr four ↦ record {
             byte = 240 + c / 262144;
@@ -61,7 +61,7 @@ first_byte c scalar =
             is = encode_four c four;
             below = grind (arith, range);
             ascii = λ small. absurd (omega (arith, small));
-            beyond = λ large. past_one;
+            beyond = λ large. skip_one;
           }
         ]
       ]

@@ -3,4 +3,4 @@
 pub use fancy_backtrack::memo::Memo;
 pub use fancy_fragments::first_way::{first_way, first_way_with};
 pub use fancy_fragments::fragment::Fragment;
-pub use fancy_plain::first_way::{FirstWay, Way};
+pub use fancy_nfa::first_way::{FirstWay, Way};

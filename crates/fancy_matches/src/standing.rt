@@ -4,7 +4,7 @@ ghost use Rattle.std.specs.Prelude.{◌≡◌, ◌≤◌, length};
 ghost use Rattle.fancy_steps.specs.Tasks.{options_of};
 ghost use Rattle.fancy_matches.specs.Listing as list;
 
-use fancy_characters::places::past_any;
+use fancy_characters::places::skip_any;
 use fancy_vm::vm::RunOptions;
 
 /// How far a list of matches has come. Positions are in bytes of the text.
@@ -65,7 +65,7 @@ impl Standing {
         self.pos = if self.pos.max(start) < end {
             end
         } else {
-            match past_any(text.as_bytes(), true, false, end) {
+            match skip_any(text.as_bytes(), true, false, end) {
                 None => end + 1,
                 Some(next) => next,
             }

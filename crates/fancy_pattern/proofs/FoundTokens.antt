@@ -23,7 +23,7 @@ use Rattle.fancy_tokens.specs.declared.lexing.Lexing.{Lexing}
 use Rattle.fancy_tokens.specs.declared.tokens.Naming.{Naming}
 use Rattle.fancy_tokens.specs.declared.tokens.Quantifier.{Quantifier}
 use Rattle.fancy_tokens.specs.declared.tokens.Quantifier.TheVariants.{Counts}
-use Rattle.fancy_pattern.specs.Texts.{Text, Read, fault_at, ◌>>=◌, past_word, past_run}
+use Rattle.fancy_pattern.specs.Texts.{Text, Read, fault_at, ◌>>=◌, skip_word, skip_run}
 use Rattle.fancy_tokens.specs.Tokens.{Target, Number, Nowhere, Reference, If, Group, Opening, Placed, Token, Node, Refer, Open, Close, Quantified, Item, item}
 use Rattle.fancy_pattern.specs.Numbers.{number_of, level_of, signed}
 use Rattle.fancy_pattern.specs.Quantifiers.{Written, is_empty, count_of, lo_of, hi_of, counts_of, counts_at, written_at}
@@ -154,7 +154,7 @@ number_gives text = either (Gives ReadNumber) (eqb (length (take_while is_ascii_
   where
     by_number : (o : Option ℕ) → number_of 10 (take_while is_ascii_digit text) ≡ o → Gives ReadNumber (elim o [
       | None ↦ Err (fault_at InvalidBackref text)
-      | Some n ↦ Ok (n, past_run is_ascii_digit text)
+      | Some n ↦ Ok (n, skip_run is_ascii_digit text)
     ])
     by_number None e = tt
     by_number (Some n) e = number_fits 10 (take_while is_ascii_digit text) n e
@@ -209,7 +209,7 @@ signed_gives negative text =
   where
     by_level : (o : Option ℤ) → level_of negative (take_while is_ascii_digit text) ≡ o → Gives ReadLevel (elim o [
       | None ↦ Err (fault_at InvalidBackref text)
-      | Some l ↦ Ok (Some l, past_run is_ascii_digit text)
+      | Some l ↦ Ok (Some l, skip_run is_ascii_digit text)
     ])
     by_level None e = tt
     by_level (Some l) e = level_fits negative (take_while is_ascii_digit text) l e
@@ -423,7 +423,7 @@ HasPair p = FineToken p.0.token
 
 absent_fine : (f : Flags) (text : Text) → HasPair (absent_at f text)
 unfolding absent_at
-absent_fine f text = found HasPair (past_word (codes "|)") text) _ _ (λ rest. (refl, (tt, tt))) (found HasPair (past_word (codes "|") text) _ _
+absent_fine f text = found HasPair (skip_word (codes "|)") text) _ _ (λ rest. (refl, (tt, tt))) (found HasPair (skip_word (codes "|") text) _ _
     (λ rest. tt) tt)
 
 angle_fine : (f : Flags) (opened : ℕ) (text : Text) → opened ≤ most_groups → HasItem (angle_at f opened text)
@@ -467,8 +467,8 @@ HasLevel None = Unit {0}
 condition_level : (text : Text) → HasLevel (condition_number_at text)
 unfolding condition_number_at ReadLevel
 condition_level text =
-    either HasLevel (eqb (length (take_while is_ascii_digit text)) 0) _ _ tt (by_level (level_at (past_run is_ascii_digit text)) (level_gives
-    (past_run is_ascii_digit text)))
+    either HasLevel (eqb (length (take_while is_ascii_digit text)) 0) _ _ tt (by_level (level_at (skip_run is_ascii_digit text)) (level_gives
+    (skip_run is_ascii_digit text)))
   where
     by_rest : (o : Option Text) (l : Option ℤ) → IfSome l (FitsSigned w64) →
         HasLevel (option_and_then (λ rest. Some ((take_while is_ascii_digit text, l), rest)) o)
@@ -477,9 +477,9 @@ condition_level text =
 
     by_level : (r : Read (Option ℤ)) → Gives ReadLevel r → HasLevel (elim r [
       | Err e ↦ None
-      | Ok l ↦ option_and_then (λ rest. Some ((take_while is_ascii_digit text, l.0), rest)) (past_word (codes ")") l.1)
+      | Ok l ↦ option_and_then (λ rest. Some ((take_while is_ascii_digit text, l.0), rest)) (skip_word (codes ")") l.1)
     ])
-    by_level (Ok l) h = by_rest (past_word (codes ")") l.1) l.0 h
+    by_level (Ok l) h = by_rest (skip_word (codes ")") l.1) l.0 h
     by_level (Err e) h = tt
 
 pattern_condition_fine : (f : Flags) (text : Text) → HasPair (pattern_condition_at f text)
@@ -496,7 +496,7 @@ group_condition_fine f opened (c ∷ cs) h =
 condition_fine : (f : Flags) (opened : ℕ) (text : Text) → opened ≤ most_groups → HasItem (condition_at f opened text)
 unfolding condition_at
 condition_fine f opened text h =
-    found HasItem (past_word (codes "DEFINE)") text) _ _ (λ rest. tt) (by_number (condition_number_at text) (condition_level text))
+    found HasItem (skip_word (codes "DEFINE)") text) _ _ (λ rest. tt) (by_number (condition_number_at text) (condition_level text))
   where
     by_number : (o : Option ((Text × Option ℤ) × Text)) → HasLevel o → HasItem (elim o [
       | Some n ↦ condition_by_group_at f n.0.0 n.0.1 text n.1

@@ -9,7 +9,7 @@ use Rattle.fancy_tokens.specs.declared.error.ErrorKind.TheVariants.{TrailingBack
 use Rattle.fancy_tokens.specs.declared.flags.Flags.{Flags}
 use Rattle.fancy_tokens.specs.declared.tokens.Naming.{Naming}
 use Rattle.fancy_tokens.specs.declared.tokens.Naming.TheVariants as naming
-use Rattle.fancy_pattern.specs.Texts.{Text, Read, fault_at, ◌>>=◌, uncons, past_run, past_word}
+use Rattle.fancy_pattern.specs.Texts.{Text, Read, fault_at, ◌>>=◌, uncons, skip_run, skip_word}
 use Rattle.fancy_pattern.specs.Numbers.{number_of}
 use Rattle.fancy_pattern.specs.Names.{number_at, delimited_at}
 use Rattle.fancy_tokens.specs.Tokens.{Token, Node, Refer, Number}
@@ -25,7 +25,7 @@ char_of digits = option_and_then (λ n. if scalar n then Some n else None) (numb
 -- so many digits
 unfoldable pub bare_hex_at : ℕ → Text → Read ℕ
 bare_hex_at count text =
-    if nat_lt (length (take_while is_hex text)) count then Err (fault_at InvalidHex (past_run is_hex text))
+    if nat_lt (length (take_while is_hex text)) count then Err (fault_at InvalidHex (skip_run is_hex text))
     else elim (char_of (take count text)) [
       | Some c ↦ Ok (c, drop count text)
       | None ↦ Err (fault_at InvalidCodepointValue text)
@@ -35,14 +35,14 @@ bare_hex_at count text =
 unfoldable pub braced_hex_at : Text → Read ℕ
 braced_hex_at text =
     if nat_lt 8 (length (take_while is_hex text)) then Err (fault_at InvalidHex (drop 8 text))
-    else elim (uncons (past_run is_hex text)) [
-      | None ↦ Err (fault_at InvalidHex (past_run is_hex text))
+    else elim (uncons (skip_run is_hex text)) [
+      | None ↦ Err (fault_at InvalidHex (skip_run is_hex text))
       | Some p ↦ if p.0 == 125 && not (length (take_while is_hex text) == 0)
           then elim (char_of (take_while is_hex text)) [
             | Some c ↦ Ok (c, p.1)
             | None ↦ Err (fault_at InvalidCodepointValue text)
           ]
-          else Err (fault_at InvalidHex (past_run is_hex text))
+          else Err (fault_at InvalidHex (skip_run is_hex text))
     ]
 
 unfoldable pub hex_at : ℕ → Text → Read ℕ
@@ -72,13 +72,13 @@ property_at text =
 -- what follows `\b`: the name of another boundary in braces, or nothing
 unfoldable pub boundary_at : Text → tree.Assertion × Text
 boundary_at text =
-    elim (past_word (codes "{start}") text) [
+    elim (skip_word (codes "{start}") text) [
       | Some rest ↦ (tree.LeftWordBoundary, rest)
-      | None ↦ elim (past_word (codes "{end}") text) [
+      | None ↦ elim (skip_word (codes "{end}") text) [
         | Some rest ↦ (tree.RightWordBoundary, rest)
-        | None ↦ elim (past_word (codes "{start-half}") text) [
+        | None ↦ elim (skip_word (codes "{start-half}") text) [
           | Some rest ↦ (tree.LeftWordHalfBoundary, rest)
-          | None ↦ elim (past_word (codes "{end-half}") text) [
+          | None ↦ elim (skip_word (codes "{end-half}") text) [
             | Some rest ↦ (tree.RightWordHalfBoundary, rest)
             | None ↦ (tree.WordBoundary, text)
           ]

@@ -10,7 +10,7 @@ use Rattle.fancy_tokens.specs.declared.tokens.Enclosing.{Enclosing}
 use Rattle.fancy_tokens.specs.declared.tokens.Enclosing.TheVariants as enclosing
 use Rattle.fancy_tokens.specs.declared.tokens.Naming.{Naming}
 use Rattle.fancy_tokens.specs.declared.tokens.Naming.TheVariants as naming
-use Rattle.fancy_pattern.specs.Texts.{Text, Read, fault_at, ◌>>=◌, uncons, past_run, past_word, past_common}
+use Rattle.fancy_pattern.specs.Texts.{Text, Read, fault_at, ◌>>=◌, uncons, skip_run, skip_word, skip_common}
 use Rattle.fancy_pattern.specs.Flags.{letters_at, at_first}
 use Rattle.fancy_pattern.specs.Numbers.{number_of}
 use Rattle.fancy_pattern.specs.Names.{name_at, closed_at, level_at, reference_at, delimited_at, named_at}
@@ -40,17 +40,17 @@ numbered_call_at f opened text = reference_at opened naming.Call 41 text >>= λ 
 
 unfoldable pub verb_word_at : Text → Option (tree.Verb × Text)
 verb_word_at text =
-    elim (past_word (codes "FAIL)") text) [
+    elim (skip_word (codes "FAIL)") text) [
       | Some rest ↦ Some (tree.Fail, rest)
-      | None ↦ elim (past_word (codes "F)") text) [
+      | None ↦ elim (skip_word (codes "F)") text) [
         | Some rest ↦ Some (tree.Fail, rest)
-        | None ↦ elim (past_word (codes "ACCEPT)") text) [
+        | None ↦ elim (skip_word (codes "ACCEPT)") text) [
           | Some rest ↦ Some (tree.Accept, rest)
-          | None ↦ elim (past_word (codes "COMMIT)") text) [
+          | None ↦ elim (skip_word (codes "COMMIT)") text) [
             | Some rest ↦ Some (tree.Commit, rest)
-            | None ↦ elim (past_word (codes "SKIP)") text) [
+            | None ↦ elim (skip_word (codes "SKIP)") text) [
               | Some rest ↦ Some (tree.Skip, rest)
-              | None ↦ elim (past_word (codes "PRUNE)") text) [
+              | None ↦ elim (skip_word (codes "PRUNE)") text) [
                 | Some rest ↦ Some (tree.Prune, rest)
                 | None ↦ None
               ]
@@ -67,11 +67,11 @@ past_verb_at text =
     (min
     (min
     (min
-    (min (past_common (codes "FAIL)") text) (past_common (codes "F)") text))
-    (past_common (codes "ACCEPT)") text))
-    (past_common (codes "COMMIT)") text))
-    (past_common (codes "SKIP)") text))
-    (past_common (codes "PRUNE)") text)
+    (min (skip_common (codes "FAIL)") text) (skip_common (codes "F)") text))
+    (skip_common (codes "ACCEPT)") text))
+    (skip_common (codes "COMMIT)") text))
+    (skip_common (codes "SKIP)") text))
+    (skip_common (codes "PRUNE)") text)
 
 unfoldable pub verb_at : Flags → Text → Read Item
 verb_at f text =
@@ -83,9 +83,9 @@ verb_at f text =
 -- `(?~|)`, `(?~|absent)`, `(?~|absent|exp)` and `(?~ )`, from behind the tilde on
 unfoldable pub absent_at : Flags → Text → Item × Text
 absent_at f text =
-    elim (past_word (codes "|)") text) [
+    elim (skip_word (codes "|)") text) [
       | Some rest ↦ (item f (Node tree.AbsentClear), rest)
-      | None ↦ elim (past_word (codes "|") text) [
+      | None ↦ elim (skip_word (codes "|") text) [
         | Some rest ↦ (item f (Open AbsentBar), rest)
         | None ↦ (around f enclosing.AbsentRepeater, text)
       ]
@@ -131,9 +131,9 @@ minus_at f opened minus text =
 unfoldable pub condition_number_at : Text → Option ((Text × Option ℤ) × Text)
 condition_number_at text =
     if length (take_while is_ascii_digit text) == 0 then None
-    else elim (level_at (past_run is_ascii_digit text)) [
+    else elim (level_at (skip_run is_ascii_digit text)) [
       | Err e ↦ None
-      | Ok l ↦ option_and_then (λ rest. Some ((take_while is_ascii_digit text, l.0), rest)) (past_word (codes ")") l.1)
+      | Ok l ↦ option_and_then (λ rest. Some ((take_while is_ascii_digit text, l.0), rest)) (skip_word (codes ")") l.1)
     ]
 
 -- a condition by these digits
@@ -151,13 +151,13 @@ condition_by_group_at f digits level text rest =
 -- the look-around that begins behind an opening parenthesis
 unfoldable pub look_at : Text → Option (tree.Look × Text)
 look_at text =
-    elim (past_word (codes "?=") text) [
+    elim (skip_word (codes "?=") text) [
       | Some rest ↦ Some (tree.LookAhead, rest)
-      | None ↦ elim (past_word (codes "?!") text) [
+      | None ↦ elim (skip_word (codes "?!") text) [
         | Some rest ↦ Some (tree.LookAheadNeg, rest)
-        | None ↦ elim (past_word (codes "?<=") text) [
+        | None ↦ elim (skip_word (codes "?<=") text) [
           | Some rest ↦ Some (tree.LookBehind, rest)
-          | None ↦ elim (past_word (codes "?<!") text) [
+          | None ↦ elim (skip_word (codes "?<!") text) [
             | Some rest ↦ Some (tree.LookBehindNeg, rest)
             | None ↦ None
           ]
@@ -193,7 +193,7 @@ group_condition_at f opened text =
 -- the condition behind `(?(`
 unfoldable pub condition_at : Flags → ℕ → Text → Read Item
 condition_at f opened text =
-    elim (past_word (codes "DEFINE)") text) [
+    elim (skip_word (codes "DEFINE)") text) [
       | Some rest ↦ Ok (around f enclosing.Define, rest)
       | None ↦ elim (condition_number_at text) [
         | Some n ↦ condition_by_group_at f n.0.0 n.0.1 text n.1

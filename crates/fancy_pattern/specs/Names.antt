@@ -6,7 +6,7 @@ use Rattle.fancy_tokens.specs.declared.error.ErrorKind.TheVariants.{InvalidGroup
 use Rattle.fancy_tokens.specs.declared.error.Fault.{Fault}
 use Rattle.fancy_tokens.specs.declared.tokens.Naming.{Naming}
 use Rattle.fancy_tokens.specs.declared.tokens.Naming.TheVariants.{Backref, Exists, Call}
-use Rattle.fancy_pattern.specs.Texts.{Text, Read, fault_at, ◌>>=◌, uncons, past_run, is_name_start, is_name_char}
+use Rattle.fancy_pattern.specs.Texts.{Text, Read, fault_at, ◌>>=◌, uncons, skip_run, is_name_start, is_name_char}
 use Rattle.fancy_pattern.specs.Numbers.{number_of, level_of}
 use Rattle.fancy_tokens.specs.Tokens.{Target, Name, Number, Nowhere, Reference}
 
@@ -15,7 +15,7 @@ unfoldable pub name_at : Text → Read Text
 name_at text =
     elim (uncons text) [
       | None ↦ Err (fault_at InvalidGroupName text)
-      | Some p ↦ if is_name_start p.0 then Ok (take_while is_name_char text, past_run is_name_char text)
+      | Some p ↦ if is_name_start p.0 then Ok (take_while is_name_char text, skip_run is_name_char text)
           else Err (fault_at InvalidGroupName text)
     ]
 
@@ -25,7 +25,7 @@ number_at text =
     if length (take_while is_ascii_digit text) == 0 then Err (fault_at InvalidGroupName text)
     else elim (number_of 10 (take_while is_ascii_digit text)) [
       | None ↦ Err (fault_at InvalidBackref text)
-      | Some n ↦ Ok (n, past_run is_ascii_digit text)
+      | Some n ↦ Ok (n, skip_run is_ascii_digit text)
     ]
 
 -- the nth group back from where so many were opened: the last of them is the first
@@ -52,7 +52,7 @@ signed_level_at negative text =
     if length (take_while is_ascii_digit text) == 0 then Err (fault_at InvalidGroupName text)
     else elim (level_of negative (take_while is_ascii_digit text)) [
       | None ↦ Err (fault_at InvalidBackref text)
-      | Some l ↦ Ok (Some l, past_run is_ascii_digit text)
+      | Some l ↦ Ok (Some l, skip_run is_ascii_digit text)
     ]
 
 -- `-N`, `+N` or nothing

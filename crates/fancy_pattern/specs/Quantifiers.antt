@@ -8,7 +8,7 @@ use Rattle.fancy_tokens.specs.declared.error.ErrorKind.TheVariants.{InvalidRepea
 use Rattle.fancy_pattern.specs.declared.quantifiers.Written as code
 use Rattle.fancy_tokens.specs.declared.tokens.Quantifier.{Quantifier}
 use Rattle.fancy_tokens.specs.declared.tokens.Quantifier.TheVariants.{Counts}
-use Rattle.fancy_pattern.specs.Texts.{Text, uncons, past_run, past_word, is_blank}
+use Rattle.fancy_pattern.specs.Texts.{Text, uncons, skip_run, skip_word, is_blank}
 use Rattle.fancy_pattern.specs.Numbers.{number_of}
 
 -- the digits of the counts, and those behind the comma where there is one
@@ -20,13 +20,13 @@ abbrev pub written_of : code.Written → Written
 written_of w = record { lo = w.lo.now; hi = option_map (λ t. t.now) w.hi }
 
 -- under `x` blanks may stand between
-abbrev pub past_blanks : Bool → Text → Text
-past_blanks ignore_whitespace text = if ignore_whitespace then past_run is_blank text else text
+abbrev pub skip_blanks : Bool → Text → Text
+skip_blanks ignore_whitespace text = if ignore_whitespace then skip_run is_blank text else text
 
 -- digits, none or more, with blanks around them
 unfoldable pub digits_at : Bool → Text → Text × Text
 digits_at x text =
-    (take_while is_ascii_digit (past_blanks x text), past_blanks x (past_run is_ascii_digit (past_blanks x text)))
+    (take_while is_ascii_digit (skip_blanks x text), skip_blanks x (skip_run is_ascii_digit (skip_blanks x text)))
 
 abbrev pub is_empty : Text → Bool
 is_empty text = length text == 0
@@ -37,7 +37,7 @@ upper_at lo x text =
     option_and_then
     (λ after. if is_empty lo && is_empty (digits_at x text).0 then None
     else Some (record { lo = lo; hi = Some (digits_at x text).0 }, after))
-    (past_word (codes "}") (digits_at x text).1)
+    (skip_word (codes "}") (digits_at x text).1)
 
 -- `N}`, `N,}`, `,N}` or `N,N}`
 unfoldable pub written_at : Bool → Text → Option (Written × Text)

@@ -36,14 +36,14 @@ uncons [] = None
 uncons (c ∷ cs) = Some (c, cs)
 
 -- what follows a word at the front
-abbrev pub past_word : Text → Text → Option Text
-past_word [] text = Some text
-past_word (w ∷ ws) [] = None
-past_word (w ∷ ws) (c ∷ cs) = if c == w then past_word ws cs else None
+abbrev pub skip_word : Text → Text → Option Text
+skip_word [] text = Some text
+skip_word (w ∷ ws) [] = None
+skip_word (w ∷ ws) (c ∷ cs) = if c == w then skip_word ws cs else None
 
 -- what follows the longest run at the front that passes the test
-abbrev pub past_run : (ℕ → Bool) → Text → Text
-past_run test text = drop (length (take_while test text)) text
+abbrev pub skip_run : (ℕ → Bool) → Text → Text
+skip_run test text = drop (length (take_while test text)) text
 
 abbrev pub is_blank : ℕ → Bool
 is_blank c = c == 32 || c == 9 || c == 10 || c == 13
@@ -74,19 +74,19 @@ blank_at ignore_whitespace [] = None
 blank_at ignore_whitespace (c ∷ cs) =
     if not ignore_whitespace then None
     else if is_blank c then Some cs
-    else if c == 35 then Some (past_run (λ d. not (d == 10)) cs)
+    else if c == 35 then Some (skip_run (λ d. not (d == 10)) cs)
     else None
 
 -- what follows the gap at the front, which is a comment, or one of those
 abbrev pub gap_at : Bool → Text → Option Text
 gap_at ignore_whitespace text =
-    elim (past_word (codes "(?#") text) [
+    elim (skip_word (codes "(?#") text) [
       | Some after ↦ comment_end false after
       | None ↦ blank_at ignore_whitespace text
     ]
 
 -- how many characters are left behind what the front has in common with a word
-abbrev pub past_common : Text → Text → ℕ
-past_common [] text = length text
-past_common (w ∷ ws) [] = 0
-past_common (w ∷ ws) (c ∷ cs) = if c == w then past_common ws cs else length (c ∷ cs)
+abbrev pub skip_common : Text → Text → ℕ
+skip_common [] text = length text
+skip_common (w ∷ ws) [] = 0
+skip_common (w ∷ ws) (c ∷ cs) = if c == w then skip_common ws cs else length (c ∷ cs)

@@ -2,7 +2,7 @@
 
 ghost use Rattle.std.specs.Prelude.{◌≡◌, ◌+◌, ◌<◌, ◌≤◌, ◌^◌, length, option_map, take, drop, encode_utf8_all, IfSome};
 ghost use Rattle.std.specs.List.{take_while, prefix_len};
-ghost use Rattle.fancy_pattern.specs.Texts.{uncons, past_word, past_run, passes, comment_end, gap_at, blank_at};
+ghost use Rattle.fancy_pattern.specs.Texts.{uncons, skip_word, skip_run, passes, comment_end, gap_at, blank_at};
 
 use unicode::properties::is_alphabetic;
 
@@ -48,8 +48,8 @@ pub(crate) fn first(text: &[char]) -> Option<(char, &[char])>
 }
 
 /// What follows this word of ASCII at the front.
-pub(crate) fn past_word<'a>(text: &'a [char], word: &str) -> Option<&'a [char]>
-    ensures value { option_map (λ t. t.now) result ≡ past_word word.now text.now }
+pub(crate) fn skip_word<'a>(text: &'a [char], word: &str) -> Option<&'a [char]>
+    ensures value { option_map (λ t. t.now) result ≡ skip_word word.now text.now }
     ensures shorter { IfSome result (λ t. length t.now + length word.now ≡ length text.now) }
 {
     let mut rest = text;
@@ -73,15 +73,15 @@ pub(crate) fn run_length(text: &[char], test: Test) -> usize
 /// The longest run at the front that passes the test, and what follows it.
 pub(crate) fn split_run(text: &[char], test: Test) -> (&[char], &[char])
     ensures run { result.0.now ≡ take_while (passes test) text.now }
-    ensures rest { result.1.now ≡ past_run (passes test) text.now }
+    ensures rest { result.1.now ≡ skip_run (passes test) text.now }
     ensures shorter { length result.0.now + length result.1.now ≡ length text.now }
 {
     text.split_at(run_length(text, test))
 }
 
 /// What follows the run at the front that passes the test.
-pub(crate) fn past_run(text: &[char], test: Test) -> &[char]
-    ensures value { result.now ≡ past_run (passes test) text.now }
+pub(crate) fn skip_run(text: &[char], test: Test) -> &[char]
+    ensures value { result.now ≡ skip_run (passes test) text.now }
     ensures shorter { length result.now ≤ length text.now }
 {
     let (_, rest) = split_run(text, test);
@@ -89,7 +89,7 @@ pub(crate) fn past_run(text: &[char], test: Test) -> &[char]
 }
 
 /// What follows the first `)` before which no backslash stands; `escaped` says whether one stands before the front.
-fn past_comment(text: &[char], escaped: bool) -> Option<&[char]>
+fn skip_comment(text: &[char], escaped: bool) -> Option<&[char]>
     ensures value { option_map (λ t. t.now) result ≡ comment_end escaped text.now }
     ensures shorter { IfSome result (λ t. length t.now ≤ length text.now) }
 {
@@ -106,17 +106,17 @@ fn past_comment(text: &[char], escaped: bool) -> Option<&[char]>
 }
 
 /// What follows a comment, or under `x` a blank or the rest of a line; none where no such thing stands at the front.
-pub(crate) fn past_gap(text: &[char], ignore_whitespace: bool) -> Option<&[char]>
+pub(crate) fn skip_gap(text: &[char], ignore_whitespace: bool) -> Option<&[char]>
     ensures value { option_map (λ t. t.now) result ≡ gap_at ignore_whitespace text.now }
     ensures shorter { IfSome result (λ t. length t.now + 1 ≤ length text.now) }
 {
-    match past_word(text, "(?#") {
-        Some(after) => past_comment(after, false),
-        None => past_blank(text, ignore_whitespace),
+    match skip_word(text, "(?#") {
+        Some(after) => skip_comment(after, false),
+        None => skip_blank(text, ignore_whitespace),
     }
 }
 
-fn past_blank(text: &[char], ignore_whitespace: bool) -> Option<&[char]>
+fn skip_blank(text: &[char], ignore_whitespace: bool) -> Option<&[char]>
     ensures value { option_map (λ t. t.now) result
         ≡ blank_at ignore_whitespace text.now }
     ensures shorter { IfSome result (λ t. length t.now + 1 ≤ length text.now) }
@@ -129,7 +129,7 @@ fn past_blank(text: &[char], ignore_whitespace: bool) -> Option<&[char]>
         return Some(after);
     }
     if c == '#' {
-        return Some(past_run(after, Test::InLine));
+        return Some(skip_run(after, Test::InLine));
     }
     None
 }

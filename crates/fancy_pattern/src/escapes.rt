@@ -7,7 +7,7 @@ ghost use Rattle.fancy_pattern.specs.Escapes.{leaf_escape, char_of, hex_at, brac
 ghost use Rattle.fancy_tokens.specs.Tokens.{Node};
 ghost use Rattle.fancy_tokens.specs.PatternViews.{leaf_of, reference_of, token_of};
 
-use crate::characters::{Test, first, past_word, run_length, split_run};
+use crate::characters::{Test, first, run_length, skip_word, split_run};
 use crate::error::fault_at;
 use crate::names::{delimited_at, number_at};
 use crate::numbers::number;
@@ -112,16 +112,16 @@ fn boundary_at(text: &[char]) -> (Assertion, &[char])
     ensures value { (assertion_of result.0, result.1.now) ≡ boundary_at text.now }
     ensures shorter { length result.1.now ≤ length text.now }
 {
-    if let Some(rest) = past_word(text, "{start}") {
+    if let Some(rest) = skip_word(text, "{start}") {
         return (Assertion::LeftWordBoundary, rest);
     }
-    if let Some(rest) = past_word(text, "{end}") {
+    if let Some(rest) = skip_word(text, "{end}") {
         return (Assertion::RightWordBoundary, rest);
     }
-    if let Some(rest) = past_word(text, "{start-half}") {
+    if let Some(rest) = skip_word(text, "{start-half}") {
         return (Assertion::LeftWordHalfBoundary, rest);
     }
-    if let Some(rest) = past_word(text, "{end-half}") {
+    if let Some(rest) = skip_word(text, "{end-half}") {
         return (Assertion::RightWordHalfBoundary, rest);
     }
     (Assertion::WordBoundary, text)

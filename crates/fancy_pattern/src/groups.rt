@@ -3,13 +3,13 @@
 ghost use Rattle.std.specs.Prelude.{◌≡◌, ◌+◌, ◌^◌, ◌<◌, ◌≤◌, length, IfOk, IfSome, option_map};
 ghost use Rattle.fancy_meaning.specs.WellFormed.{most_groups};
 ghost use Rattle.fancy_expr.specs.Views.{verb_of, look_of};
-ghost use Rattle.fancy_pattern.specs.Texts.{seen, past_common};
+ghost use Rattle.fancy_pattern.specs.Texts.{seen, skip_common};
 ghost use Rattle.fancy_tokens.specs.Tokens as tokens;
 ghost use Rattle.fancy_pattern.specs.Groups as plain;
 ghost use Rattle.fancy_pattern.specs.Groups.{plain_group, named_group_at, call_at, numbered_call_at, verb_word_at, past_verb_at, verb_at, absent_at, angle_at, python_at, condition_number_at, condition_at, condition_by_group_at, named_condition_at, group_condition_at, look_at, pattern_condition_at, flags_item_at, minus_at, enclosing_of, other_question_at, question_at, opening_at};
 ghost use Rattle.fancy_tokens.specs.PatternViews.{item_of, opening_of, reference_of, target_of};
 
-use crate::characters::{Test, first, past_word, split_run};
+use crate::characters::{Test, first, skip_word, split_run};
 use crate::error::fault_at;
 use crate::flags::flags_at;
 use crate::names::{closed_at, delimited_at, level_at, name_at, named_at, reference_at};
@@ -87,30 +87,30 @@ fn verb_word_at(text: &[char]) -> Option<(BacktrackingControlVerb, &[char])>
     ensures value { option_map (λ p. (verb_of p.0, p.1.now)) result ≡ verb_word_at text.now }
     ensures shorter { IfSome result (λ p. length p.1.now ≤ length text.now) }
 {
-    if let Some(rest) = past_word(text, "FAIL)") {
+    if let Some(rest) = skip_word(text, "FAIL)") {
         return Some((BacktrackingControlVerb::Fail, rest));
     }
-    if let Some(rest) = past_word(text, "F)") {
+    if let Some(rest) = skip_word(text, "F)") {
         return Some((BacktrackingControlVerb::Fail, rest));
     }
-    if let Some(rest) = past_word(text, "ACCEPT)") {
+    if let Some(rest) = skip_word(text, "ACCEPT)") {
         return Some((BacktrackingControlVerb::Accept, rest));
     }
-    if let Some(rest) = past_word(text, "COMMIT)") {
+    if let Some(rest) = skip_word(text, "COMMIT)") {
         return Some((BacktrackingControlVerb::Commit, rest));
     }
-    if let Some(rest) = past_word(text, "SKIP)") {
+    if let Some(rest) = skip_word(text, "SKIP)") {
         return Some((BacktrackingControlVerb::Skip, rest));
     }
-    if let Some(rest) = past_word(text, "PRUNE)") {
+    if let Some(rest) = skip_word(text, "PRUNE)") {
         return Some((BacktrackingControlVerb::Prune, rest));
     }
     None
 }
 
 /// How many characters are left behind what the front has in common with this word of ASCII.
-fn past_common(text: &[char], word: &str) -> usize
-    ensures { result ≡ past_common word.now text.now }
+fn skip_common(text: &[char], word: &str) -> usize
+    ensures { result ≡ skip_common word.now text.now }
 {
     let mut rest = text;
     for byte in word.as_bytes() {
@@ -126,15 +126,15 @@ fn past_common(text: &[char], word: &str) -> usize
 }
 
 /// How many characters are left from the first one on by which no verb goes on.
-fn past_verb(text: &[char]) -> usize
+fn skip_verb(text: &[char]) -> usize
     ensures { result ≡ past_verb_at text.now }
 {
-    past_common(text, "FAIL)")
-        .min(past_common(text, "F)"))
-        .min(past_common(text, "ACCEPT)"))
-        .min(past_common(text, "COMMIT)"))
-        .min(past_common(text, "SKIP)"))
-        .min(past_common(text, "PRUNE)"))
+    skip_common(text, "FAIL)")
+        .min(skip_common(text, "F)"))
+        .min(skip_common(text, "ACCEPT)"))
+        .min(skip_common(text, "COMMIT)"))
+        .min(skip_common(text, "SKIP)"))
+        .min(skip_common(text, "PRUNE)"))
 }
 
 /// The verb behind `(*`.
@@ -146,7 +146,7 @@ fn verb_at(flags: Flags, text: &[char]) -> Result<(Item<'_>, &[char]), Fault>
     match verb_word_at(text) {
         Some((verb, rest)) => Ok((Item::new(flags, Token::Leaf(Leaf::Verb(verb))), rest)),
         None => Err(Fault {
-            left: past_verb(text),
+            left: skip_verb(text),
             kind: ErrorKind::GeneralParseError,
         }),
     }
@@ -158,10 +158,10 @@ fn absent_at(flags: Flags, text: &[char]) -> (Item<'_>, &[char])
     ensures value { (item_of result.0, result.1.now) ≡ absent_at flags text.now }
     ensures shorter { length result.1.now ≤ length text.now }
 {
-    if let Some(rest) = past_word(text, "|)") {
+    if let Some(rest) = skip_word(text, "|)") {
         return (Item::new(flags, Token::Leaf(Leaf::AbsentClear)), rest);
     }
-    if let Some(rest) = past_word(text, "|") {
+    if let Some(rest) = skip_word(text, "|") {
         return (Item::new(flags, Token::Open(Opening::AbsentBar)), rest);
     }
     (around(flags, Enclosing::AbsentRepeater), text)
@@ -335,7 +335,7 @@ fn condition_number_at(text: &[char]) -> Option<((&[char], Option<isize>), &[cha
         return None;
     }
     let (level, rest) = level_at(rest).ok()?;
-    let rest = past_word(rest, ")")?;
+    let rest = skip_word(rest, ")")?;
     Some(((digits, level), rest))
 }
 
@@ -346,7 +346,7 @@ fn condition_at(flags: Flags, opened: usize, text: &[char]) -> Result<(Item<'_>,
         ≡ condition_at flags opened text.now }
     ensures shorter { IfOk result (λ p. length p.1.now ≤ length text.now) }
 {
-    if let Some(rest) = past_word(text, "DEFINE)") {
+    if let Some(rest) = skip_word(text, "DEFINE)") {
         return Ok((around(flags, Enclosing::Define), rest));
     }
     match condition_number_at(text) {
@@ -421,16 +421,16 @@ fn look_at(text: &[char]) -> Option<(LookAround, &[char])>
         ≡ look_at text.now }
     ensures shorter { IfSome result (λ p. length p.1.now ≤ length text.now) }
 {
-    if let Some(rest) = past_word(text, "?=") {
+    if let Some(rest) = skip_word(text, "?=") {
         return Some((LookAround::LookAhead, rest));
     }
-    if let Some(rest) = past_word(text, "?!") {
+    if let Some(rest) = skip_word(text, "?!") {
         return Some((LookAround::LookAheadNeg, rest));
     }
-    if let Some(rest) = past_word(text, "?<=") {
+    if let Some(rest) = skip_word(text, "?<=") {
         return Some((LookAround::LookBehind, rest));
     }
-    if let Some(rest) = past_word(text, "?<!") {
+    if let Some(rest) = skip_word(text, "?<!") {
         return Some((LookAround::LookBehindNeg, rest));
     }
     None

@@ -3,7 +3,7 @@
 ghost use Rattle.std.specs.Prelude.{◌≡◌, ◌+◌, ◌^◌, ◌<◌, ◌≤◌, length};
 ghost use Rattle.fancy_meaning.specs.WellFormed.{most_groups};
 
-use crate::characters::past_gap;
+use crate::characters::skip_gap;
 use crate::items::{closing_at, found_at, group_at, literal_at, lone_at, no_class};
 use crate::kept::{Counted, keep};
 use fancy_tokens::error::{ErrorKind, Fault};
@@ -215,7 +215,7 @@ impl<'a> Lexer<'a> {
             if self.rest.is_empty() {
                 return Ok(false);
             }
-            if let Some(after) = past_gap(self.rest, self.now.flags.ignore_whitespace) {
+            if let Some(after) = skip_gap(self.rest, self.now.flags.ignore_whitespace) {
                 self.rest = after;
                 return Ok(true);
             }

@@ -1,11 +1,11 @@
 //! Quantifiers.
 
 ghost use Rattle.std.specs.Prelude.{◌≡◌, ◌^◌, ◌-◌, ◌≤◌, length, IfSome, IfOk, MatchOption, option_map};
-ghost use Rattle.fancy_pattern.specs.Texts.{seen, past_run, is_blank};
+ghost use Rattle.fancy_pattern.specs.Texts.{seen, skip_run, is_blank};
 ghost use Rattle.fancy_pattern.specs.Quantifiers as plain;
-ghost use Rattle.fancy_pattern.specs.Quantifiers.{past_blanks, count_of, lo_of, hi_of, counts_of, digits_at, upper_at, written_at, counts_at};
+ghost use Rattle.fancy_pattern.specs.Quantifiers.{skip_blanks, count_of, lo_of, hi_of, counts_of, digits_at, upper_at, written_at, counts_at};
 
-use crate::characters::{Test, first, past_run, past_word, split_run};
+use crate::characters::{Test, first, skip_run, skip_word, split_run};
 use crate::numbers::number;
 use fancy_tokens::error::ErrorKind;
 use fancy_tokens::tokens::Quantifier;
@@ -18,12 +18,12 @@ pub struct Written<'a> {
     pub hi: Option<&'a [char]>,
 }
 
-fn past_blanks(text: &[char], ignore_whitespace: bool) -> &[char]
-    ensures value { result.now ≡ past_blanks ignore_whitespace text.now }
+fn skip_blanks(text: &[char], ignore_whitespace: bool) -> &[char]
+    ensures value { result.now ≡ skip_blanks ignore_whitespace text.now }
     ensures shorter { length result.now ≤ length text.now }
 {
     if ignore_whitespace {
-        past_run(text, Test::Blank)
+        skip_run(text, Test::Blank)
     } else {
         text
     }
@@ -35,8 +35,8 @@ fn digits_at(text: &[char], ignore_whitespace: bool) -> (&[char], &[char])
     ensures value { (result.0.now, result.1.now) ≡ digits_at ignore_whitespace text.now }
     ensures shorter { length result.1.now ≤ length text.now }
 {
-    let (digits, rest) = split_run(past_blanks(text, ignore_whitespace), Test::Digit);
-    (digits, past_blanks(rest, ignore_whitespace))
+    let (digits, rest) = split_run(skip_blanks(text, ignore_whitespace), Test::Digit);
+    (digits, skip_blanks(rest, ignore_whitespace))
 }
 
 /// The counts behind a `{`, up to the closing brace; none where no counts are written.
@@ -66,7 +66,7 @@ fn upper_at<'a>(
     ensures shorter { IfSome result (λ p. length p.1.now ≤ length text.now) }
 {
     let (hi, rest) = digits_at(text, ignore_whitespace);
-    let after = past_word(rest, "}")?;
+    let after = skip_word(rest, "}")?;
     if lo.is_empty() && hi.is_empty() {
         return None;
     }

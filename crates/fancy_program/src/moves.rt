@@ -52,7 +52,7 @@ pub fn chars_between(text: &[u8], from: usize, to: usize) -> usize
 }
 
 /// Past the characters of the literal.
-pub fn past_literal(literal: &CaseiLiteral, text: &str, ix: usize) -> Option<usize>
+pub fn skip_literal(literal: &CaseiLiteral, text: &str, ix: usize) -> Option<usize>
     ensures { result ≡ moves.past_chars text.now (literal_tests literal.now) ix }
 {
     Some(ix + literal.match_len(text, ix)?)
@@ -60,7 +60,7 @@ pub fn past_literal(literal: &CaseiLiteral, text: &str, ix: usize) -> Option<usi
 
 /// Past one character of the class.
 #[inline(always)]
-pub fn past_class(
+pub fn skip_class(
     alloc: Global,
     class: &CharClassMatcher,
     text: &str,
@@ -69,15 +69,15 @@ pub fn past_class(
     ensures { IfOk result
         (λ to. to ≡ moves.past_char text.now (class_test (class_of class.now)) ix) }
 {
-    match past_ascii(class, text, ix) {
+    match skip_ascii(class, text, ix) {
         Some(to) => Ok(to),
-        None => past_other(alloc, class, text, ix),
+        None => skip_other(alloc, class, text, ix),
     }
 }
 
-/// As `past_class`, where no character beyond ASCII stands there; `None` where one does.
+/// As `skip_class`, where no character beyond ASCII stands there; `None` where one does.
 #[inline(always)]
-pub fn past_ascii(class: &CharClassMatcher, text: &str, ix: usize) -> Option<Option<usize>>
+pub fn skip_ascii(class: &CharClassMatcher, text: &str, ix: usize) -> Option<Option<usize>>
     ensures { IfSome result
         (λ to. to ≡ moves.past_char text.now (class_test (class_of class.now)) ix) }
 {
@@ -94,9 +94,9 @@ pub fn past_ascii(class: &CharClassMatcher, text: &str, ix: usize) -> Option<Opt
     }
 }
 
-/// As `past_class`, for any character.
+/// As `skip_class`, for any character.
 #[inline(never)]
-fn past_other(
+fn skip_other(
     alloc: Global,
     class: &CharClassMatcher,
     text: &str,

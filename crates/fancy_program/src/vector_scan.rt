@@ -144,7 +144,7 @@ impl Needles {
 
     /// The first position from `pos` on that has a candidate in the next 128 bytes, or fewer bytes than that up to `end`.
     #[inline(always)]
-    pub(crate) fn past_quiet<const KIND: usize>(self, text: &[u8], pos: usize, end: usize) -> usize
+    pub(crate) fn skip_quiet<const KIND: usize>(self, text: &[u8], pos: usize, end: usize) -> usize
         requires order { pos < end }
         requires room { end ≤ length text.now }
         requires single { BYTES ≤ KIND → IsSingle self }

@@ -13,7 +13,7 @@ use Rattle.fancy_tokens.specs.declared.error.ErrorKind.TheVariants.{InvalidEscap
 use Rattle.fancy_tokens.specs.declared.lexing.ClassPlace.{ClassPlace}
 use Rattle.fancy_tokens.specs.declared.lexing.Head.{Head}
 use Rattle.fancy_tokens.specs.declared.lexing.Head.TheVariants as head
-use Rattle.fancy_pattern.specs.Texts.{Text, Read, fault_at, ◌>>=◌, uncons, past_run}
+use Rattle.fancy_pattern.specs.Texts.{Text, Read, fault_at, ◌>>=◌, uncons, skip_run}
 use Rattle.fancy_tokens.specs.Tokens.{Token, ClassText, ClassClose}
 use Rattle.fancy_pattern.specs.Escapes.{hex_at, bare_hex_at, braced_hex_at, is_hex, char_of, property_at, property_length}
 use Rattle.fancy_tokens.specs.PatternViews.{code_text, hex_digits}
@@ -423,7 +423,7 @@ bare_character : (count : ℕ) (text : Text) → IsCharacter (bare_hex_at count 
 unfolding bare_hex_at
 bare_character count text = by_length (nat_lt (length (take_while is_hex text)) count)
   where
-    by_length : (b : Bool) → IsCharacter (if b then Err (fault_at InvalidHex (past_run is_hex text)) else elim (char_of (take count text)) [
+    by_length : (b : Bool) → IsCharacter (if b then Err (fault_at InvalidHex (skip_run is_hex text)) else elim (char_of (take count text)) [
       | Some c ↦ Ok (c, drop count text)
       | None ↦ Err (fault_at InvalidCodepointValue text)
     ])
@@ -437,33 +437,33 @@ braced_character text = by_length (nat_lt 8 (length (take_while is_hex text)))
     by_brace : (b : Bool) (rest : Text) → IsCharacter (if b then elim (char_of (take_while is_hex text)) [
       | Some c ↦ Ok (c, rest)
       | None ↦ Err (fault_at InvalidCodepointValue text)
-    ] else Err (fault_at InvalidHex (past_run is_hex text)))
+    ] else Err (fault_at InvalidHex (skip_run is_hex text)))
     by_brace true rest = found_character (take_while is_hex text) text rest
     by_brace false rest = tt
 
     by_rest : (o : Option (ℕ × Text)) → IsCharacter (elim o [
-      | None ↦ Err (fault_at InvalidHex (past_run is_hex text))
+      | None ↦ Err (fault_at InvalidHex (skip_run is_hex text))
       | Some p ↦ if p.0 == 125 && not (length (take_while is_hex text) == 0)
           then elim (char_of (take_while is_hex text)) [
             | Some c ↦ Ok (c, p.1)
             | None ↦ Err (fault_at InvalidCodepointValue text)
           ]
-          else Err (fault_at InvalidHex (past_run is_hex text))
+          else Err (fault_at InvalidHex (skip_run is_hex text))
     ])
     by_rest None = tt
     by_rest (Some p) = by_brace (p.0 == 125 && not (length (take_while is_hex text) == 0)) p.1
 
-    by_length : (b : Bool) → IsCharacter (if b then Err (fault_at InvalidHex (drop 8 text)) else elim (uncons (past_run is_hex text)) [
-      | None ↦ Err (fault_at InvalidHex (past_run is_hex text))
+    by_length : (b : Bool) → IsCharacter (if b then Err (fault_at InvalidHex (drop 8 text)) else elim (uncons (skip_run is_hex text)) [
+      | None ↦ Err (fault_at InvalidHex (skip_run is_hex text))
       | Some p ↦ if p.0 == 125 && not (length (take_while is_hex text) == 0)
           then elim (char_of (take_while is_hex text)) [
             | Some c ↦ Ok (c, p.1)
             | None ↦ Err (fault_at InvalidCodepointValue text)
           ]
-          else Err (fault_at InvalidHex (past_run is_hex text))
+          else Err (fault_at InvalidHex (skip_run is_hex text))
     ])
     by_length true = tt
-    by_length false = by_rest (uncons (past_run is_hex text))
+    by_length false = by_rest (uncons (skip_run is_hex text))
 
 hex_character : (count : ℕ) (text : Text) → IsCharacter (hex_at count text)
 unfolding hex_at

@@ -17,7 +17,7 @@ use Rattle.fancy_tokens.specs.declared.error.ErrorKind.TheVariants.{InvalidRepea
 use Rattle.fancy_tokens.specs.declared.flags.Flags.{Flags}
 use Rattle.fancy_tokens.specs.declared.tokens.Quantifier.{Quantifier}
 use Rattle.fancy_tokens.specs.declared.tokens.Quantifier.TheVariants.{Star, Plus, Question, Counts}
-use Rattle.fancy_pattern.specs.Texts.{Text, Read, fault_at, ◌>>=◌, uncons, past_word, past_run, gap_at}
+use Rattle.fancy_pattern.specs.Texts.{Text, Read, fault_at, ◌>>=◌, uncons, skip_word, skip_run, gap_at}
 use Rattle.fancy_tokens.specs.Tokens.{Token, Item, Quantified, item}
 use Rattle.fancy_pattern.specs.Numbers.{number_of}
 use Rattle.fancy_pattern.specs.Quantifiers.{Written, is_empty, digits_at, upper_at, written_at, count_of, lo_of, hi_of, counts_of, counts_at}
@@ -40,7 +40,7 @@ run (d ∷ ds) c rest h missing =
     ∙ is_if (is_ascii_digit d) _ _ (digit d h.0)
     ∙ ap (λ l. d ∷ l) (run ds c rest h.1 missing)
 
-past : (ds : List ℕ) (c : ℕ) (rest : Text) → AllDigits 10 ds → is_ascii_digit c ≡ false → past_run is_ascii_digit (ds ++ c ∷ rest) ≡ c ∷ rest
+past : (ds : List ℕ) (c : ℕ) (rest : Text) → AllDigits 10 ds → is_ascii_digit c ≡ false → skip_run is_ascii_digit (ds ++ c ∷ rest) ≡ c ∷ rest
 past ds c rest h missing = ap (λ l. drop (length l) (ds ++ c ∷ rest)) (run ds c rest h missing) ∙ drop-append_seam ds (c ∷ rest)
 
 abbrev Digits : ℕ → Type 0
@@ -56,16 +56,16 @@ some_digits ds h = ne_eqb (length ds) 0 (λ z. omega (arith, h, z))
 
 abbrev upper_from : Text → Text → Text → Option (Written × Text)
 upper_from lo a b =
-    option_and_then (λ after. if is_empty lo && is_empty a then None else Some (record { lo = lo; hi = Some a }, after)) (past_word (codes "}") b)
+    option_and_then (λ after. if is_empty lo && is_empty a then None else Some (record { lo = lo; hi = Some a }, after)) (skip_word (codes "}") b)
 
-upper_parts : (lo text : Text) → upper_at lo false text ≡ upper_from lo (take_while is_ascii_digit text) (past_run is_ascii_digit text)
+upper_parts : (lo text : Text) → upper_at lo false text ≡ upper_from lo (take_while is_ascii_digit text) (skip_run is_ascii_digit text)
 unfolding upper_at digits_at
 upper_parts lo text = refl
 
 upper : (lo ds : List ℕ) (rest : Text) → is_empty lo ≡ false → AllDigits 10 ds → upper_at lo false (ds ++ 125 ∷ rest) ≡ Some (record { lo = lo; hi = Some ds }, rest)
 upper lo ds rest some h =
     upper_parts lo (ds ++ 125 ∷ rest)
-    ∙ ap (λ a. upper_from lo a (past_run is_ascii_digit (ds ++ 125 ∷ rest))) (run ds 125 rest h refl)
+    ∙ ap (λ a. upper_from lo a (skip_run is_ascii_digit (ds ++ 125 ∷ rest))) (run ds 125 rest h refl)
     ∙ ap (upper_from lo ds) (past ds 125 rest h refl)
     ∙ ap {A = Bool} {B = Option (Written × Text)} (λ b. if b && is_empty ds then None else Some (record { lo = lo; hi = Some ds }, rest)) some
 
@@ -77,14 +77,14 @@ written_from a b =
     else None)
     (uncons b)
 
-written_parts : (text : Text) → written_at false text ≡ written_from (take_while is_ascii_digit text) (past_run is_ascii_digit text)
+written_parts : (text : Text) → written_at false text ≡ written_from (take_while is_ascii_digit text) (skip_run is_ascii_digit text)
 unfolding written_at digits_at
 written_parts text = refl
 
 written_run : (ds : List ℕ) (c : ℕ) (rest : Text) → AllDigits 10 ds → is_ascii_digit c ≡ false → written_at false (ds ++ c ∷ rest) ≡ written_from ds (c ∷ rest)
 written_run ds c rest h missing =
     written_parts (ds ++ c ∷ rest)
-    ∙ ap (λ a. written_from a (past_run is_ascii_digit (ds ++ c ∷ rest))) (run ds c rest h missing)
+    ∙ ap (λ a. written_from a (skip_run is_ascii_digit (ds ++ c ∷ rest))) (run ds c rest h missing)
     ∙ ap (written_from ds) (past ds c rest h missing)
 
 -- `N}`

@@ -11,7 +11,7 @@ use Rattle.std.proofs.lemmas.List.Sums.{take_while-cons}
 use Rattle.std.proofs.Math.Seq.{drop-append_seam}
 use Rattle.fancy_expr.specs.Each.{Each}
 use Rattle.fancy_tokens.specs.declared.error.ErrorKind.TheVariants.{InvalidHex, InvalidCodepointValue}
-use Rattle.fancy_pattern.specs.Texts.{Text, Read, fault_at, uncons, past_run}
+use Rattle.fancy_pattern.specs.Texts.{Text, Read, fault_at, uncons, skip_run}
 use Rattle.fancy_pattern.specs.Numbers.{number_of}
 use Rattle.fancy_pattern.specs.Escapes.{is_hex, char_of, braced_hex_at}
 use Rattle.fancy_tokens.specs.PatternViews.{hex_digit, hex_digits}
@@ -218,7 +218,7 @@ braced_from text a b =
           else Err (fault_at InvalidHex b)
     ]
 
-braced_parts : (text : Text) → braced_hex_at text ≡ braced_from text (take_while is_hex text) (past_run is_hex text)
+braced_parts : (text : Text) → braced_hex_at text ≡ braced_from text (take_while is_hex text) (skip_run is_hex text)
 unfolding braced_hex_at
 braced_parts text = refl
 
@@ -240,11 +240,11 @@ code_again c rest is =
     let ds = hex_digits c in
     let text = ds ++ 125 ∷ rest in
     let taken = run ds 125 rest d.each refl in
-    let left : past_run is_hex text ≡ 125 ∷ rest = ap (λ l. drop (length l) text) taken ∙ drop-append_seam ds (125 ∷ rest) in
+    let left : skip_run is_hex text ≡ 125 ∷ rest = ap (λ l. drop (length l) text) taken ∙ drop-append_seam ds (125 ∷ rest) in
     let some = d.some in
     let short = d.short in
     braced_parts text
-    ∙ ap (λ a. braced_from text a (past_run is_hex text)) taken
+    ∙ ap (λ a. braced_from text a (skip_run is_hex text)) taken
     ∙ ap (braced_from text ds) left
     ∙ not_if (nat_lt 8 (length ds)) _ _ (le-ltb 8 (length ds) short)
     ∙ ap {A = Bool} {B = Read ℕ}

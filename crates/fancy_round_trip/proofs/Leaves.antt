@@ -8,7 +8,7 @@ use Rattle.fancy_meaning.specs.Tree.{Tree}
 use Rattle.fancy_meaning.specs.WellFormed.{most_groups}
 use Rattle.fancy_tokens.specs.declared.lexing.ClassPlace.{ClassPlace}
 use Rattle.fancy_tokens.specs.declared.flags.Flags.{Flags}
-use Rattle.fancy_pattern.specs.Texts.{Text, Read as Answer, ◌>>=◌, gap_at, past_word}
+use Rattle.fancy_pattern.specs.Texts.{Text, Read as Answer, ◌>>=◌, gap_at, skip_word}
 use Rattle.fancy_tokens.specs.Tokens.{Token, Node, ClassOpen, ClassText, ClassClose, Placed, Item, placed, item}
 use Rattle.fancy_pattern.specs.Escapes.{escape_at, other_escape_at, boundary_at, set_at, property_at, is_set, set}
 use Rattle.fancy_pattern.specs.Groups.{opening_at}
@@ -166,13 +166,13 @@ unfolding boundary_at
 no_braces [] h = refl
 no_braces (c ∷ cs) h =
     ap {A = Bool} {B = tree.Assertion × Text}
-    (λ b. elim (if b then past_word (codes "start}") cs else None) [
+    (λ b. elim (if b then skip_word (codes "start}") cs else None) [
       | Some rest ↦ (tree.LeftWordBoundary, rest)
-      | None ↦ elim (if b then past_word (codes "end}") cs else None) [
+      | None ↦ elim (if b then skip_word (codes "end}") cs else None) [
         | Some rest ↦ (tree.RightWordBoundary, rest)
-        | None ↦ elim (if b then past_word (codes "start-half}") cs else None) [
+        | None ↦ elim (if b then skip_word (codes "start-half}") cs else None) [
           | Some rest ↦ (tree.LeftWordHalfBoundary, rest)
-          | None ↦ elim (if b then past_word (codes "end-half}") cs else None) [
+          | None ↦ elim (if b then skip_word (codes "end-half}") cs else None) [
             | Some rest ↦ (tree.RightWordHalfBoundary, rest)
             | None ↦ (tree.WordBoundary, c ∷ cs)
           ]

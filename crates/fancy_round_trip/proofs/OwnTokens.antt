@@ -18,7 +18,7 @@ use Rattle.fancy_tokens.specs.declared.lexing.Lexing.{Lexing}
 use Rattle.fancy_tokens.specs.declared.tokens.Naming.{Naming}
 use Rattle.fancy_tokens.specs.declared.tokens.Naming.TheVariants as naming
 use Rattle.fancy_tokens.specs.declared.tokens.Quantifier.{Quantifier}
-use Rattle.fancy_pattern.specs.Texts.{Text, Read, fault_at, ◌>>=◌, past_word}
+use Rattle.fancy_pattern.specs.Texts.{Text, Read, fault_at, ◌>>=◌, skip_word}
 use Rattle.fancy_tokens.specs.Tokens.{Number, If, Placed, Token, Node, Open, Quantified, Item, item}
 use Rattle.fancy_pattern.specs.Numbers.{number_of}
 use Rattle.fancy_pattern.specs.Quantifiers.{counts_at}
@@ -226,7 +226,7 @@ verb_own f text = found HasItem (verb_word_at text) _ _ (λ v. tt) tt
 absent_own : (f : Flags) (text : Text) → HasPair (absent_at f text)
 unfolding absent_at
 absent_own f text =
-    found HasPair (past_word (codes "|)") text) _ _ (λ rest. tt) (found HasPair (past_word (codes "|") text) _ _ (λ rest. tt) tt)
+    found HasPair (skip_word (codes "|)") text) _ _ (λ rest. tt) (found HasPair (skip_word (codes "|") text) _ _ (λ rest. tt) tt)
 
 angle_own : (f : Flags) (opened : ℕ) (text : Text) → HasItem (angle_at f opened text)
 unfolding angle_at
@@ -273,7 +273,7 @@ group_condition_own f opened (c ∷ cs) =
 
 condition_own : (f : Flags) (opened : ℕ) (text : Text) → HasItem (condition_at f opened text)
 unfolding condition_at
-condition_own f opened text = found HasItem (past_word (codes "DEFINE)") text) _ _ (λ rest. tt) (by_number (condition_number_at text))
+condition_own f opened text = found HasItem (skip_word (codes "DEFINE)") text) _ _ (λ rest. tt) (by_number (condition_number_at text))
   where
     by_number : (o : Option ((Text × Option ℤ) × Text)) → HasItem (elim o [
       | Some n ↦ condition_by_group_at f n.0.0 n.0.1 text n.1

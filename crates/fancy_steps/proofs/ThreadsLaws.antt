@@ -3,7 +3,7 @@ use denote.Param.Send.{IsSend, sendable}
 use Rattle.std.proofs.Crossing as std
 use Rattle.std.proofs.MapsCrossing as maps
 use Rattle.fancy_backtrack.specs.contracts.memo.Memo as Memo
-use Rattle.fancy_plain.specs.contracts.group_spans.GroupSpans as GroupSpans
+use Rattle.fancy_nfa.specs.contracts.group_spans.GroupSpans as GroupSpans
 use Rattle.fancy_steps.specs.contracts.memos.Memos as Memos
 
 -- each type in turn, since a `search` through all of them at once runs out of steps

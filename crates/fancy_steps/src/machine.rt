@@ -4,7 +4,7 @@ ghost use Rattle.std.specs.Prelude.{◌≡◌, ◌+◌, ◌<◌, length, min, On
 ghost use Rattle.fancy_meaning.specs.Config as config;
 ghost use Rattle.fancy_meaning.specs.Machine as machine;
 ghost use Rattle.fancy_state.specs.Held.{state_bytes, first_state};
-ghost use Rattle.fancy_steps.specs.SearchLimits.{is_past, is_past_bytes};
+ghost use Rattle.fancy_steps.specs.SearchLimits.{is_past, exceeds_bytes};
 ghost use Rattle.fancy_steps.specs.Sound.{IsSound};
 ghost use Rattle.fancy_steps.specs.TrailingNewlines.{AreTrailingNewlines};
 
@@ -289,13 +289,13 @@ impl<'a> Machine<'a> {
         ensures room { OnOk result (length (config_of self.old).branches < config.most_branches) }
         ensures ok { OnOk result (config_of self.new ≡ with_branch pc (config_of self.old)) }
         ensures within { OnOk result
-            (is_past_bytes self.old.task.limits self.old.state ≡ false) }
+            (exceeds_bytes self.old.task.limits self.old.state ≡ false) }
         ensures stopped { IfErr result (IsPushStop (length (config_of self.old).branches)) }
     {
         if self.state.is_full() {
             return Err(Stop::Limit(RuntimeError::StackOverflow));
         }
-        if self.is_past_bytes() {
+        if self.exceeds_bytes() {
             return Err(Stop::Memory);
         }
         self.state.add_branch(pc, self.ix)?;
@@ -304,8 +304,8 @@ impl<'a> Machine<'a> {
 
     /// The machine looks at how many bytes it holds, and these are more than the limit allows.
     #[inline(always)]
-    pub fn is_past_bytes(&self) -> bool
-        ensures { result ≡ is_past_bytes self.now.task.limits self.now.state }
+    pub fn exceeds_bytes(&self) -> bool
+        ensures { result ≡ exceeds_bytes self.now.task.limits self.now.state }
     {
         self.state.backtrack_count() % BRANCHES_BETWEEN_LOOKS == 0 && self.holds_too_much()
     }

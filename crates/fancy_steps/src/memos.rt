@@ -3,8 +3,8 @@
 ghost use Rattle.std.specs.Prelude.{◌≡◌, ◌<◌, ◌+◌, ◌/◌, if◌then◌else◌, min, nat_lt, Some, None, length, max, slice_get, slice_set, IfOk, IsTrue, OnOk};
 ghost use Rattle.fancy_meaning.specs.Places.{is_place};
 ghost use Rattle.fancy_fragments.specs.Fragments.{IsFirstWayOf, IsOnePassWayOf};
-ghost use Rattle.fancy_plain.specs.GroupSpans.{spans_in};
-ghost use Rattle.fancy_plain.specs.Ways.{HasAscending};
+ghost use Rattle.fancy_nfa.specs.GroupSpans.{spans_in};
+ghost use Rattle.fancy_nfa.specs.Ways.{HasAscending};
 ghost use Rattle.fancy_steps.specs.MemoRuns.{AddsNoMemo, AreOfRuns};
 
 use crate::machine::Task;
@@ -13,9 +13,9 @@ use crate::walks::{FREE_PASSES, passed};
 use fancy_backtrack::memo::Memo;
 use fancy_expr::error::Error;
 use fancy_fragments::fragment::Fragment;
-use fancy_plain::first_way::FirstWay;
-use fancy_plain::group_spans::GroupSpans;
-use fancy_plain::one_pass::OnePass;
+use fancy_nfa::first_way::FirstWay;
+use fancy_nfa::group_spans::GroupSpans;
+use fancy_nfa::one_pass::OnePass;
 use std::alloc::{AllocError, Global};
 
 /// So often one pass over fragments with groups may tell nothing in a run.

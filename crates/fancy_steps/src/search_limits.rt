@@ -3,7 +3,7 @@
 ghost use Rattle.std.specs.Prelude.{◌≡◌, ◌+◌, ◌-◌, ◌*◌, ◌/◌, ◌<◌, min, None, IfOk, IsTrue, OnOk};
 ghost use Rattle.fancy_meaning.specs.Places.{is_place};
 ghost use Rattle.fancy_fragments.specs.Fragments.{IsFirstWayOf, IsJoinedMemoFor};
-ghost use Rattle.fancy_plain.specs.Ways.{HasAscending};
+ghost use Rattle.fancy_nfa.specs.Ways.{HasAscending};
 ghost use Rattle.fancy_steps.specs.SearchLimits.{held_by, left_of, no_cost, no_limits, passed_by, visit_cost};
 
 use crate::machine::Task;
@@ -12,7 +12,7 @@ use fancy_backtrack::memo::Memo;
 use fancy_expr::error::Error;
 use fancy_fragments::first_way::first_way_joined;
 use fancy_fragments::fragment::Fragment;
-use fancy_plain::first_way::FirstWay;
+use fancy_nfa::first_way::FirstWay;
 
 /// How much the searches of the delegates of one run may take together, and how many bytes the run may hold. Without a
 /// limit they may take as much as can be counted.

@@ -14,8 +14,8 @@ use Rattle.fancy_info.specs.declared.info.Info.{Info}
 use Rattle.fancy_info.specs.Infos.{info_tree, info_children, info_facts, info_hard, IsRoot}
 use Rattle.fancy_expr.specs.Walk.{start_inside, within_inside}
 use Rattle.fancy_analysis.proofs.InfoNodes.{parts-out}
-use Rattle.fancy_plain.specs.Nfas.{AreFine}
-use Rattle.fancy_plain.proofs.Nodes.{each_easy_by}
+use Rattle.fancy_nfa.specs.Nfas.{AreFine}
+use Rattle.fancy_nfa.proofs.Nodes.{each_easy_by}
 use Rattle.fancy_fragments.specs.Nodes.{AreEasyNeighbours}
 
 each_fine : (es : List Tree) → ((d : Tree) → Contains (nodes_of_each (trees es)) d → IsFine d) → AreFine es

@@ -10,7 +10,7 @@ ghost use Rattle.fancy_vm.specs.Founds.{IsMatchWith};
 ghost use Rattle.fancy_vm.specs.Means.{IsMeaning, IsMeaningPair, numbers_of};
 ghost use Rattle.fancy_steps.specs.Outcomes.{RunAnswers, RunAnswersPair, answer_in, held_match, plain_task};
 ghost use Rattle.fancy_vm.specs.Ready.{AreFresh, IsReady};
-ghost use Rattle.fancy_steps.specs.SearchLimits.{StaysWithin, is_past, is_past_bytes, no_limits};
+ghost use Rattle.fancy_steps.specs.SearchLimits.{StaysWithin, is_past, exceeds_bytes, no_limits};
 ghost use Rattle.fancy_state.specs.Held.{first_state};
 ghost use Rattle.fancy_state.specs.Refused.{IsMemory};
 ghost use Rattle.fancy_program.specs.Programs.{prog_of};
@@ -487,12 +487,12 @@ impl Room {
     fn keep(&mut self, m: Machine<'_>, wants_memory: bool)
         requires { IsTrue (is_some self.old.memos) }
         ensures told { IsTrue wants_memory
-            → IsTrue (is_past_bytes m.entry.task.limits m.entry.state)
+            → IsTrue (exceeds_bytes m.entry.task.limits m.entry.state)
             → IsTrue (is_past m.entry.task.limits.bytes (cost_in self.new.memos).bytes) }
-        ensures else_same { is_past_bytes m.entry.task.limits m.entry.state ≡ false
+        ensures else_same { exceeds_bytes m.entry.task.limits m.entry.state ≡ false
             → cost_in self.new.memos ≡ cost_in self.old.memos }
     {
-        if wants_memory && m.is_past_bytes() {
+        if wants_memory && m.exceeds_bytes() {
             self.count_bytes(m.state.bytes());
         }
         let executed = m.task.options.step_limit.saturating_sub(m.left);

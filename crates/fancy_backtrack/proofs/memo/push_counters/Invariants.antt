@@ -1,6 +1,6 @@
 use Rattle.std.proofs.Common.{List}
-use Rattle.fancy_nfa.specs.NfaSearch as plain
-use Rattle.fancy_nfa.specs.NfaSearch.{Next, Search, TakesBack, TakesUp, pair_of}
+use Rattle.fancy_nfa_laws.specs.NfaSearch as plain
+use Rattle.fancy_nfa_laws.specs.NfaSearch.{Next, Search, TakesBack, TakesUp, pair_of}
 use Rattle.fancy_backtrack.specs.Paths.{HasCounters}
 use Rattle.fancy_backtrack.proofs.PathLaws.{AreWritten}
 use Rattle.fancy_backtrack.proofs.memo.push_counters.Given as goal

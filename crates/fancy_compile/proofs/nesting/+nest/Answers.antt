@@ -4,7 +4,7 @@ use Rattle.fancy_expr.specs.Each.{Each}
 use Rattle.fancy_code.specs.Nesting.{NestsDeeper, alone}
 use Rattle.fancy_info.specs.Infos.{info_tree}
 use Rattle.fancy_info.proofs.Children.{each_at}
-use Rattle.fancy_plain.specs.Neighbours.{IsEasy}
+use Rattle.fancy_nfa.specs.Neighbours.{IsEasy}
 use Rattle.fancy_compile.proofs.NestLaws.{children_easy, children_written, deeper_by_one, no_deeper_by_all, none_at, none_below, none_left, none_written, one_at}
 use Rattle.fancy_compile.proofs.nesting.+nest.Goals as goal
 

@@ -1,5 +1,5 @@
 use Rattle.std.proofs.Common.{false}
-use Rattle.fancy_plain.proofs.FirstWayLaws.{counted_by}
+use Rattle.fancy_nfa.proofs.FirstWayLaws.{counted_by}
 use Rattle.fancy_fragments.proofs.first_way.first_way.Goals as goal
 
 pub returns-clause-visits : goal.returns-clause-visits

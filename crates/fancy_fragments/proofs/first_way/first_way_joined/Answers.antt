@@ -1,5 +1,5 @@
 use Rattle.std.proofs.Common.{IfOk, subst}
-use Rattle.fancy_plain.specs.Ways.{IsFirstWay}
+use Rattle.fancy_nfa.specs.Ways.{IsFirstWay}
 use Rattle.fancy_fragments.proofs.FirstWays.{found_joined, visits_by}
 use Rattle.fancy_fragments.proofs.first_way.first_way_joined.Goals as goal
 

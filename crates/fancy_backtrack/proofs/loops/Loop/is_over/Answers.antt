@@ -1,7 +1,7 @@
 use Rattle.std.proofs.Common.{◌≡◌, ◌^◌, ◌-◌, ℕ, ◌||◌, false, not, Some, None, if◌then◌else◌, nat_le, nat_lt, arith, sym, ap, ap₂, ◌∙◌}
 use Rattle.std.proofs.lemmas.Bool.{ne_eqb, eq-eqb}
 use Rattle.std.proofs.lemmas.Bool.Decides.{nat_tests}
-use Rattle.fancy_nfa.specs.NfaSearch as plain
+use Rattle.fancy_nfa_laws.specs.NfaSearch as plain
 use Rattle.fancy_expr.specs.Views.{bound_of}
 use Rattle.fancy_backtrack.proofs.PathLaws.{option_stays}
 use Rattle.fancy_backtrack.proofs.loops.Loop.is_over.Goals as goal

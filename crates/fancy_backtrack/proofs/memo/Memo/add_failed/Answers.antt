@@ -1,5 +1,5 @@
 use Rattle.std.proofs.Common.{◌∷◌, []}
-use Rattle.fancy_nfa.specs.NfaSearch.{pair_of}
+use Rattle.fancy_nfa_laws.specs.NfaSearch.{pair_of}
 use Rattle.fancy_backtrack.proofs.MemoLaws.{key_outside, memoized, when_added}
 use Rattle.fancy_backtrack.proofs.memo.Memo.add_failed.Goals as goal
 

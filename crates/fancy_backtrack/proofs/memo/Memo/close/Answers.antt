@@ -1,6 +1,6 @@
 use Rattle.std.proofs.Common.{Ok, Some, sym, subst}
-use Rattle.fancy_nfa.specs.NfaSearch as plain
-use Rattle.fancy_nfa.specs.NfaStates.{Close}
+use Rattle.fancy_nfa_laws.specs.NfaSearch as plain
+use Rattle.fancy_nfa_laws.specs.NfaStates.{Close}
 use Rattle.fancy_backtrack.specs.Memos.{Simulates}
 use Rattle.fancy_backtrack.specs.declared.memo.StepResult.TheVariants as step_result
 use Rattle.fancy_backtrack.specs.declared.trail.NfaConfig.{NfaConfig}

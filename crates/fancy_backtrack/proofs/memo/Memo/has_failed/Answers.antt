@@ -1,5 +1,5 @@
 use Rattle.std.proofs.Common.{sym, ap, ◌∙◌}
-use Rattle.fancy_nfa.specs.NfaSearch.{pair_of}
+use Rattle.fancy_nfa_laws.specs.NfaSearch.{pair_of}
 use Rattle.fancy_backtrack.specs.PairKeys.{key_of}
 use Rattle.fancy_backtrack.specs.FailedPairs.{has_pair}
 use Rattle.fancy_backtrack.proofs.MemoLaws.{key_outside}

@@ -1,5 +1,5 @@
 use Rattle.std.proofs.Common.{ap, ◌∙◌}
-use Rattle.fancy_nfa.specs.NfaSearch.{pair_of}
+use Rattle.fancy_nfa_laws.specs.NfaSearch.{pair_of}
 use Rattle.fancy_backtrack.specs.FailedPairs.{has_pair}
 use Rattle.fancy_backtrack.proofs.MemoLaws.{inside}
 use Rattle.fancy_backtrack.proofs.memo.Memo.has_failed_inside.Goals as goal

@@ -1,7 +1,7 @@
 use Rattle.std.proofs.Common.{refl, sym, ap, ◌∙◌, subst, ◌+◌, ◌∷◌, Some, true}
-use Rattle.fancy_nfa.specs.NfaSearch as plain
-use Rattle.fancy_nfa.specs.NfaStates as states
-use Rattle.fancy_nfa.specs.NfaSearch.{Next, Search, TakesBack, TakesUp, pair_of}
+use Rattle.fancy_nfa_laws.specs.NfaSearch as plain
+use Rattle.fancy_nfa_laws.specs.NfaStates as states
+use Rattle.fancy_nfa_laws.specs.NfaSearch.{Next, Search, TakesBack, TakesUp, pair_of}
 use Rattle.fancy_backtrack.specs.Memos.{Simulates}
 use Rattle.fancy_backtrack.specs.declared.memo.Memo.{Memo}
 use Rattle.fancy_backtrack.proofs.MemoLaws.{here_by, one_visit, renumbered, tries_anew, tries_in_vain}

@@ -1,6 +1,6 @@
 use Rattle.std.proofs.Common.{refl, ◌∷◌}
-use Rattle.fancy_nfa.specs.NfaSearch as plain
-use Rattle.fancy_nfa.specs.NfaSearch.{Next, Search, TakesBack, TakesUp, pair_of}
+use Rattle.fancy_nfa_laws.specs.NfaSearch as plain
+use Rattle.fancy_nfa_laws.specs.NfaSearch.{Next, Search, TakesBack, TakesUp, pair_of}
 use Rattle.fancy_backtrack.specs.declared.trail.Entry.TheVariants as entry
 use Rattle.fancy_backtrack.proofs.MemoLaws.{here_in_group, search_pushed}
 use Rattle.fancy_backtrack.proofs.memo.Memo.open.Goals as goal

@@ -1,5 +1,5 @@
 use Rattle.std.proofs.Common.{sym, ap, subst, arith}
-use Rattle.fancy_nfa.specs.NfaSearch.{TakesUp}
+use Rattle.fancy_nfa_laws.specs.NfaSearch.{TakesUp}
 use Rattle.fancy_backtrack.specs.Paths.{counter_of}
 use Rattle.fancy_backtrack.specs.Loops.{loop_of}
 use Rattle.fancy_backtrack.specs.Memos.{IsHere, Simulates}

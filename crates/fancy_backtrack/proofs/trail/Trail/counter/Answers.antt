@@ -1,6 +1,6 @@
 use Rattle.std.proofs.Common.{◌≡◌, ◌≤◌, ◌∷◌, [], ℕ, suc, List, Some, None, slice_get, arith, ap, sym, subst, ◌∙◌}
 use Rattle.std.proofs.lemmas.Option.{gets}
-use Rattle.fancy_nfa.specs.NfaSearch as plain
+use Rattle.fancy_nfa_laws.specs.NfaSearch as plain
 use Rattle.fancy_backtrack.specs.Paths.{HasCounters, IsCounter, EndsCounters}
 use Rattle.fancy_backtrack.specs.declared.trail.Entry.{Entry}
 use Rattle.fancy_backtrack.specs.declared.trail.Entry.TheVariants as entry

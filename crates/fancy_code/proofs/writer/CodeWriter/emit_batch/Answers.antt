@@ -2,7 +2,7 @@ use Rattle.std.proofs.Common.{length, map, sym, ap, ◌∙◌, subst}
 use Rattle.fancy_info.specs.Infos.{info_tree}
 use Rattle.fancy_meaning.specs.Batches.{batch}
 use Rattle.fancy_meaning.specs.Code.{nothing, one}
-use Rattle.fancy_plain.specs.Nfas.{HaveClasses, IsRefusedFor}
+use Rattle.fancy_nfa.specs.Nfas.{HaveClasses, IsRefusedFor}
 use Rattle.fancy_program.specs.Insns.{insn_of}
 use Rattle.fancy_code.specs.Batches.{code_of}
 use Rattle.fancy_code.specs.Drafts.{draft_of, Writes}

@@ -1,7 +1,7 @@
 use Rattle.std.proofs.Common.{[], ◌∷◌, length, sym, ap, ◌∙◌, subst}
 use Rattle.fancy_info.specs.Infos.{info_tree}
 use Rattle.fancy_meaning.specs.Code.{one}
-use Rattle.fancy_plain.specs.Nfas.{HaveClasses, IsRefusedFor}
+use Rattle.fancy_nfa.specs.Nfas.{HaveClasses, IsRefusedFor}
 use Rattle.fancy_program.specs.Insns.{insn_of}
 use Rattle.fancy_code.specs.Batches.{easy_repeater}
 use Rattle.fancy_code.specs.Drafts.{draft_of, Writes}

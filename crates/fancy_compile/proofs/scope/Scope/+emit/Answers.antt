@@ -24,7 +24,7 @@ use Rattle.fancy_compile.specs.AnalysedNodes.{back_start, front_count, rest_of}
 use Rattle.std.specs.List.{list_all, list_any}
 use Rattle.std.proofs.lemmas.Bool.{and_parts, cond-true, cond-false}
 use Rattle.fancy_meaning.specs.Batches.{batch}
-use Rattle.fancy_plain.specs.Neighbours.{IsEasy}
+use Rattle.fancy_nfa.specs.Neighbours.{IsEasy}
 use Rattle.fancy_fragments.specs.Nodes.{AreEasyNeighbours}
 use Rattle.fancy_compile.proofs.Slices.{back_each, back_neighbours, front_each, front_neighbours, not_true, total_middle, whole_drop, whole_take}
 use Rattle.fancy_compile.proofs.EachLaws.{each_drop, each_take}

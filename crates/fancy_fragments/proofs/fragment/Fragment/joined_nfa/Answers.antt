@@ -1,5 +1,5 @@
 use Rattle.std.proofs.Common.{subst, sym}
-use Rattle.fancy_plain.specs.Ways.{IsOfNodes}
+use Rattle.fancy_nfa.specs.Ways.{IsOfNodes}
 use Rattle.fancy_fragments.specs.Fragments.{nfa_or}
 use Rattle.fancy_fragments.proofs.FirstWays.{of_nodes, of_joined_nodes}
 use Rattle.fancy_fragments.proofs.fragment.Fragment.joined_nfa.Goals as goal

@@ -3,9 +3,9 @@ use Rattle.std.proofs.Math.ListN.{drop_of_length-le}
 use Rattle.std.proofs.Math.Path.{fun_ext}
 use Rattle.fancy_meaning.specs.Config as config
 use Rattle.fancy_meaning.specs.MatchState.{Span}
-use Rattle.fancy_plain.specs.GroupSpans.{span_from, spans_in}
+use Rattle.fancy_nfa.specs.GroupSpans.{span_from, spans_in}
 use Rattle.fancy_steps.specs.Outcomes.{config_of}
-use Rattle.fancy_plain.proofs.GroupSpansLaws.{none_before, span_none}
+use Rattle.fancy_nfa.proofs.GroupSpansLaws.{none_before, span_none}
 use Rattle.fancy_steps.proofs.PairsLaws.{group_fits, pairs_of_one}
 use Rattle.fancy_steps.proofs.machine.Machine.set_groups.Goals.{in-Some+in_ok-set_pair, in_default}
 use Rattle.fancy_steps.proofs.machine.Machine.set_groups.Goals as goal

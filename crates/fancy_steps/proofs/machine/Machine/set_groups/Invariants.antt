@@ -1,6 +1,6 @@
 use Rattle.std.proofs.Common.{◌≡◌, ◌+◌, drop, length}
 use Rattle.fancy_meaning.specs.Config as config
-use Rattle.fancy_plain.specs.GroupSpans.{span_from}
+use Rattle.fancy_nfa.specs.GroupSpans.{span_from}
 use Rattle.fancy_steps.specs.Outcomes.{config_of}
 use Rattle.fancy_steps.proofs.machine.Machine.set_groups.Given as goal
 

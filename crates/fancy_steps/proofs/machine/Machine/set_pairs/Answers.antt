@@ -1,7 +1,7 @@
 use Rattle.std.proofs.Common.{◌≡◌, suc, ◌+◌, ◌∷◌, ap, ◌∙◌, arith, sym, subst, drop, drop-cons, slice_index_or}
 use Rattle.std.proofs.Math.ListN.{drop_of_length-le}
 use Rattle.fancy_meaning.specs.Config as config
-use Rattle.fancy_plain.specs.Ways.{Ascends, listed}
+use Rattle.fancy_nfa.specs.Ways.{Ascends, listed}
 use Rattle.fancy_steps.specs.Outcomes.{config_of}
 use Rattle.fancy_steps.proofs.PairsLaws.{ascend_on, pairs_none, pairs_of_one}
 use Rattle.fancy_steps.proofs.machine.Machine.set_pairs.Goals as goal

@@ -2,8 +2,8 @@ use Rattle.std.proofs.Common.{◌≡◌, All, ◌+◌, ◌*◌, ◌<◌, ap, opt
 use Rattle.fancy_meaning.specs.Config.{Goes, at_ix, forward, with_pairs, with_slots}
 use Rattle.fancy_meaning.specs.Machine.{first_way}
 use Rattle.fancy_laws.proofs.Every.{All-every}
-use Rattle.fancy_nfa.specs.FirstWays.{seen}
-use Rattle.fancy_plain.specs.Ways.{IsSeenAs, listed}
+use Rattle.fancy_nfa_laws.specs.FirstWays.{seen}
+use Rattle.fancy_nfa.specs.Ways.{IsSeenAs, listed}
 use Rattle.fancy_fragments.specs.Fragments.{fragment_of}
 use Rattle.fancy_steps.specs.Outcomes.{StepAnswers, config_of, plain_task}
 use Rattle.fancy_steps.proofs.PairsLaws.{takes_none, takes_some, way_fits}

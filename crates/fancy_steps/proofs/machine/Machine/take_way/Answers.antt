@@ -1,7 +1,7 @@
 use Rattle.std.proofs.Common.{◌≡◌, ◌<◌, ◌+◌, ◌*◌, IfSome, ap, subst, sym, ◌∙◌}
 use Rattle.fancy_meaning.specs.Config.{Goes, at_ix, forward, with_pairs, with_slots}
 use Rattle.fancy_meaning.specs.Machine.{first_way}
-use Rattle.fancy_plain.specs.GroupSpans.{spans_in}
+use Rattle.fancy_nfa.specs.GroupSpans.{spans_in}
 use Rattle.fancy_fragments.specs.Fragments.{IsOnePassWayOf, fragment_of}
 use Rattle.fancy_steps.specs.Outcomes.{StepAnswers, config_of, plain_task}
 use Rattle.fancy_steps.proofs.PairsLaws.{groups_fit, takes_none, takes_seen}

@@ -1,7 +1,7 @@
 use Rattle.std.proofs.Common.{◌≡◌, ◌+◌, ◌-◌, None, arith, ap, sym, ◌∙◌}
 use Rattle.std.proofs.lemmas.Option.{same_Some, slice_get-get_or}
-use Rattle.fancy_plain.specs.GroupSpans.{span_from}
-use Rattle.fancy_plain.proofs.GroupSpansLaws.{none_before}
+use Rattle.fancy_nfa.specs.GroupSpans.{span_from}
+use Rattle.fancy_nfa.proofs.GroupSpansLaws.{none_before}
 use Rattle.fancy_steps.proofs.PairsLaws.{span_at, span_behind}
 use Rattle.fancy_steps.proofs.memos.Memos.group.Goals as goal
 

@@ -1,5 +1,0 @@
-use Rattle.fancy_nfa.proofs.PlainSearch.{failed_set_is_sound}
-use Rattle.fancy_nfa.proofs.failed_set_is_sound.Goals as goal
-
-pub returns : goal.returns
-returns c = failed_set_is_sound

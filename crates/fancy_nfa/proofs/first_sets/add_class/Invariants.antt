@@ -1,0 +1,10 @@
+use Rattle.std.proofs.Common.{◌≡◌, ℕ, ◌<◌, true, false, length, slice_index_or}
+use Rattle.fancy_characters.specs.Classes.{class_of}
+use Rattle.fancy_meaning.specs.Machine.{class_test}
+use Rattle.fancy_nfa.proofs.first_sets.add_class.Given as goal
+
+abbrev pub invariant-ask : goal.invariant-ask
+invariant-ask l =
+    ((c : ℕ) → c < l.c → class_test (class_of l.fn.class) c ≡ true → slice_index_or l.ascii c false ≡ true)
+    × ((c : ℕ) → slice_index_or l.fn.ascii c false ≡ true → slice_index_or l.ascii c false ≡ true)
+    × (length l.ascii ≡ 128)

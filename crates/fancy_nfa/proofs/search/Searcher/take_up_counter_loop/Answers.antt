@@ -1,0 +1,31 @@
+use Rattle.std.proofs.Common.{◌∙◌, ap, slice_get}
+use Rattle.std.proofs.lemmas.Result.{err_from_is_err_and}
+use Rattle.fancy_nfa_laws.specs.NfaSearch.{TakesUp}
+use Rattle.fancy_nfa.specs.Searches.{continuation_of}
+use Rattle.fancy_nfa.specs.declared.nfa_state.NfaState.TheVariants as nfa_state
+use Rattle.fancy_nfa.proofs.BackLaws.{comes_by, comes_further}
+use Rattle.fancy_nfa.proofs.SearchLaws.{at_step, steps_by}
+use Rattle.fancy_nfa.proofs.search.Searcher.take_up_counter_loop.Goals as goal
+
+pub returns-in_err-on-clause-leads : goal.returns-in_err-on-clause-leads
+returns-in_err-on-clause-leads c = λ s f h here.
+    let p = err_from_is_err_and c.from_residual.result c.from_residual.ensures.1 in
+    rw p.1 (0, c.in_err-on.ensures.failed s f h here)
+
+pub returns-then-on-config-clause-leads : goal.returns-then-on-config-clause-leads
+returns-then-on-config-clause-leads c = λ s f h here. c.in_ok-on.ensures.ok s f h here
+
+pub returns-clause-leads : goal.returns-clause-leads
+returns-clause-leads c = λ s f h here.
+    let searcher = c.args.self.now in
+    let on = c.in_ok-on.on in
+    let came = c.in_ok-on.ensures.ok s f h here in
+    let g = came.1.0 in
+    let t = came.1.1.0 in
+    let stands = came.1.1.1.2 in
+    let p = nfa_state.CounterLoop c.args.bounds c.args.after in
+    let there = ap (slice_get searcher.states.now) c.if-on-config.false ∙ c.requires.at in
+    comes_further searcher came.0 (TakesUp s f) (TakesUp t g) c.counter_loop.result c.counter_loop.new.self came.1.1.1.0
+    (comes_by searcher t g c.counter_loop.result c.counter_loop.new.self
+    (at_step searcher p on t g stands.at there c.counter_loop.result c.counter_loop.new.self
+    (c.counter_loop.ensures.leads (continuation_of searcher) t g came.1.1.1.1 stands (steps_by searcher p on t stands.at there))))

@@ -1,0 +1,4 @@
+pub mod NfaStates
+pub mod NfaCode
+pub mod NfaSearch
+pub mod FirstWays

@@ -1,5 +1,0 @@
-use Rattle.fancy_plain.proofs.FirstSetLaws.{AreWithin}
-use Rattle.fancy_plain.proofs.first_sets.level_between.Given as goal
-
-abbrev pub invariant-states : goal.invariant-states
-invariant-states l = AreWithin l.fn.unicode l.fn.states l.fn.reached l.fn.after l.ascii l.at

@@ -1,6 +1,0 @@
-use Rattle.std.proofs.Common.{false}
-use Rattle.fancy_nfa.specs.FirstWays.{no_pairs}
-use Rattle.fancy_plain.proofs.nfa.Nfa.memo.Goals as goal
-
-pub returns-clause-memo : goal.returns-clause-memo
-returns-clause-memo c = λ text. ((λ pair. false), (c.new.ensures.failed, no_pairs))
