@@ -162,6 +162,7 @@ module _ (whole : Tree) where
     is_there = from_spot c.spot (call_link c.spot h) c.is_there (call_gives c.spot h c.is_call c.is_tracked);
     leads_from = c.owner;
     leads_to = refl;
+    is_one = refl;
   }
 
   outer_linked : (g : ℕ) → IsOuter whole g → IsLinked links 0 g
@@ -170,6 +171,7 @@ module _ (whole : Tree) where
     is_there = from_spot o.spot (group_link g) o.is_there (group_gives o.spot g o.body o.is_group o.owner o.is_entered);
     leads_from = refl;
     leads_to = refl;
+    is_one = refl;
   }
 
   pub reached : (n : ℕ) → IsReachable whole n → IsReached links n
@@ -182,7 +184,7 @@ module _ (whole : Tree) where
       let p = to_calls l.link l.is_there in
       elim (read p.from.node (around_of p.from) l.link p.gives) [
         | inl i ↦ (
-            let start : p.from.position ≡ 0 = eqb-true p.from.position 0 (sym i.at_once ∙ l.at_once) in
+            let start : p.from.position ≡ 0 = eqb-true p.from.position 0 (sym i.at_once ∙ l.is_one) in
             record {
               spot = p.from;
               is_there = p.is_there;
@@ -192,7 +194,7 @@ module _ (whole : Tree) where
               position = start;
             }
             )
-        | inr o ↦ (let a = o.at_once in let b = l.at_once in cc)
+        | inr o ↦ (let a = o.at_once in let b = l.is_one in cc)
       ]
 
   linked_at_once : (g h : ℕ) → Calls whole g 0 h → IsLinkedAtOnce links g h
@@ -201,7 +203,7 @@ module _ (whole : Tree) where
     is_there = from_spot c.spot (call_link c.spot h) c.is_there (call_gives c.spot h c.is_call c.is_tracked);
     leads_from = c.owner;
     leads_to = refl;
-    at_once = eq-eqb c.spot.position 0 c.position;
+    is_one = eq-eqb c.spot.position 0 c.position;
   }
 
   at_once : (g h : ℕ) → LeadsOn links g h → LeadsAtOnce whole g h

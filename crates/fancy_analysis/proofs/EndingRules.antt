@@ -1,10 +1,9 @@
 -- Whether a node ends, by how its parts do; and the flags that no round changes tell what can end.
 use Rattle.std.proofs.Common.{◌≡◌, ℕ, ◌+◌, ◌<◌, ◌≤◌, Bool, true, false, List, [], ◌∷◌, ◌++◌, length, take, get_or, ap, ◌∙◌, arith, ◌&&◌, ◌||◌, ◌==◌, map, sym, refl, zero, suc, ◌⊎◌, inl, inr, ⊎_elim, max, nat_lt, replicate, filter_map, slice_index_or, slice_set, Option, Some, None, subst, lt-ltb}
-use Rattle.std.proofs.lemmas.List.{take_more, take_all, length-map, map-append, get_or_past}
-use Rattle.fancy_analysis.specs.Endings.{set_count, ends_by, all_end_by, some_end_by, and_then, no_parts, node_ends, is_ended_group, is_own_end, group_ends, IsRootOf, flag_count, next_ends}
+use Rattle.std.proofs.lemmas.List.{take_all, length-map, length-take-le, map-append, get_or_past}
+use Rattle.fancy_analysis.specs.Endings.{ends_by, all_end_by, some_end_by, before_parts, with_part, node_ends, is_ended_group, is_own_end, group_ends, IsRootOf, flag_count, next_ends}
 use Rattle.std.proofs.Math.Bool.{and_assoc, and-true, or_assoc, or_comm, or-false}
 use Rattle.fancy_meaning.specs.Tree.{Tree, Trees, trees, none, more, parts, Concat, Alt, Group, LookAround, Repeat, AtomicGroup, DefineGroup, Conditional, SubroutineCall, AbsentRepeater, AbsentStopper, AbsentExpression, NoLook}
-use Rattle.fancy_analysis.specs.declared.endings.PartEnds.{PartEnds}
 use Rattle.fancy_info.specs.declared.info.Info.{Info}
 use Rattle.fancy_expr.specs.declared.expr.Absent.{Absent}
 use Rattle.fancy_expr.specs.declared.expr.Expr.{Expr}
@@ -30,101 +29,88 @@ use Rattle.fancy_expr.specs.declared.expr.Absent.TheVariants as code_absent
 use Rattle.fancy_expr.specs.declared.expr.Expr.TheVariants as code
 use Rattle.fancy_analysis.specs.Endings as flag
 
-count-append : (xs : List Bool) (b : Bool) → set_count (xs ++ b ∷ []) ≡ set_count xs + set_count (b ∷ [])
-count-append [] b = omega arith
-count-append (true ∷ xs) b = let rest = count-append xs b in omega (arith, rest)
-count-append (false ∷ xs) b = count-append xs b
+abbrev pub parts_from : Expr → ℕ → Bool → List Bool → Bool
+parts_from e i p [] = p
+parts_from e i p (b ∷ bs) = parts_from e (suc i) (with_part e i p b) bs
 
-pub count-taken : (xs : List Bool) (i : ℕ) (b : Bool) → i < length xs → get_or xs i false ≡ b →
-    set_count (take (i + 1) xs) ≡ set_count (take i xs) + set_count (b ∷ [])
-count-taken xs i b lt is =
-    ap set_count (take_more xs i false lt)
-    ∙ count-append (take i xs) (get_or xs i false)
-    ∙ ap (λ x. set_count (take i xs) + set_count (x ∷ [])) is
-
-pub count-all : (xs : List Bool) (n : ℕ) → length xs ≤ n → set_count (take n xs) ≡ set_count xs
-count-all xs n h = ap set_count (take_all n xs h)
-
-abbrev pub parts_from : PartEnds → List Bool → PartEnds
-parts_from p [] = p
-parts_from p (b ∷ bs) = parts_from (and_then p b) bs
-
-parts-append : (p : PartEnds) (bs : List Bool) (b : Bool) → parts_from p (bs ++ b ∷ []) ≡ and_then (parts_from p bs) b
-parts-append p [] b = refl
-parts-append p (c ∷ bs) b = parts-append (and_then p c) bs b
-
-abbrev pub all_parts : PartEnds → Bool
-all_parts p = p.earlier && p.last
+parts-append : (e : Expr) (i n : ℕ) (p : Bool) (bs : List Bool) (b : Bool) → i + length bs ≡ n →
+    parts_from e i p (bs ++ b ∷ []) ≡ with_part e n (parts_from e i p bs) b
+parts-append e i n p [] b is =
+    let same : i ≡ n = omega arith in
+    ap (λ k. with_part e k p b) same
+parts-append e i n p (c ∷ bs) b is = parts-append e (suc i) n (with_part e i p c) bs b (omega arith)
 
 module _ (flags : List Bool) where
   abbrev ended : Info → Bool
   ended i = ends_by flags (info_tree i)
 
   -- how so many of the parts end
-  abbrev pub ends_of : List Info → PartEnds
-  ends_of is = parts_from no_parts (map ended is)
+  abbrev pub ends_of : Expr → List Info → Bool
+  ends_of e is = parts_from e 0 (before_parts e) (map ended is)
 
-  pub ends-taken : (is : List Info) (n : ℕ) (i : Info) → n < length is → i ≡ get_or is n i →
-      ends_of (take (n + 1) is) ≡ and_then (ends_of (take n is)) (ends_by flags (info_tree i))
-  ends-taken is n i h at =
-      ap ends_of (taken is n i h at)
-      ∙ ap (parts_from no_parts) (map-append ended (take n is) (i ∷ []))
-      ∙ parts-append no_parts (map ended (take n is)) (ended i)
+  pub ends-taken : (e : Expr) (is : List Info) (n : ℕ) (i : Info) → n < length is → i ≡ get_or is n i →
+      ends_of e (take (n + 1) is) ≡ with_part e n (ends_of e (take n is)) (ends_by flags (info_tree i))
+  ends-taken e is n i h at =
+      ap (ends_of e) (taken is n i h at)
+      ∙ ap (parts_from e 0 (before_parts e)) (map-append ended (take n is) (i ∷ []))
+      ∙ parts-append e 0 n (before_parts e) (map ended (take n is)) (ended i)
+      (omega (arith, length-map (take n is) ended, length-take-le n is (omega arith)))
 
-  all-from : (p : PartEnds) (ts : List Tree) → all_parts (parts_from p (map (ends_by flags) ts)) ≡ (all_parts p && all_end_by flags (trees ts))
-  all-from p [] = sym (and-true (all_parts p))
-  all-from p (t ∷ ts) = all-from (and_then p (ends_by flags t)) ts ∙ and_assoc (all_parts p) (ends_by flags t) (all_end_by flags (trees ts))
+  all-from : (e : Expr) → ((i : ℕ) (p b : Bool) → with_part e i p b ≡ (p && b)) → (i : ℕ) (p : Bool) (ts : List Tree) →
+      parts_from e i p (map (ends_by flags) ts) ≡ (p && all_end_by flags (trees ts))
+  all-from e and i p [] = sym (and-true p)
+  all-from e and i p (t ∷ ts) =
+      all-from e and (suc i) (with_part e i p (ends_by flags t)) ts
+      ∙ ap (λ q. q && all_end_by flags (trees ts)) (and i p (ends_by flags t))
+      ∙ and_assoc p (ends_by flags t) (all_end_by flags (trees ts))
 
-  some-from : (p : PartEnds) (ts : List Tree) → (parts_from p (map (ends_by flags) ts)).some ≡ (p.some || some_end_by flags (trees ts))
-  some-from p [] = sym (or-false p.some)
-  some-from p (t ∷ ts) = some-from (and_then p (ends_by flags t)) ts ∙ or_assoc p.some (ends_by flags t) (some_end_by flags (trees ts))
+  some-from : (e : Expr) → ((i : ℕ) (p b : Bool) → with_part e i p b ≡ (p || b)) → (i : ℕ) (p : Bool) (ts : List Tree) →
+      parts_from e i p (map (ends_by flags) ts) ≡ (p || some_end_by flags (trees ts))
+  some-from e or i p [] = sym (or-false p)
+  some-from e or i p (t ∷ ts) =
+      some-from e or (suc i) (with_part e i p (ends_by flags t)) ts
+      ∙ ap (λ q. q || some_end_by flags (trees ts)) (or i p (ends_by flags t))
+      ∙ or_assoc p (ends_by flags t) (some_end_by flags (trees ts))
 
-  abbrev of_trees : List Tree → PartEnds
-  of_trees ts = parts_from no_parts (map (ends_by flags) ts)
-
-  no_part_ends : (ts : List Tree) → length ts ≡ 0 → all_parts (of_trees ts) ≡ true
+  no_part_ends : (ts : List Tree) → length ts ≡ 0 → all_end_by flags (trees ts) ≡ true
   no_part_ends [] h = refl
   no_part_ends (t ∷ ts) h = absurd (omega arith)
 
-  one_part_ends : (ts : List Tree) → length ts ≡ 1 → all_parts (of_trees ts) ≡ ends_by flags (nth (trees ts) 0)
+  one_part_ends : (ts : List Tree) → length ts ≡ 1 → all_end_by flags (trees ts) ≡ ends_by flags (nth (trees ts) 0)
   one_part_ends [] h = absurd (omega arith)
-  one_part_ends (t ∷ []) h = refl
+  one_part_ends (t ∷ []) h = and-true (ends_by flags t)
   one_part_ends (t ∷ u ∷ ts) h = absurd (omega arith)
 
-  two_parts_end : (ts : List Tree) → length ts ≡ 2 → all_parts (of_trees ts) ≡ (ends_by flags (nth (trees ts) 0) && ends_by flags (nth (trees ts) 1))
+  two_parts_end : (ts : List Tree) → length ts ≡ 2 → all_end_by flags (trees ts) ≡ (ends_by flags (nth (trees ts) 0) && ends_by flags (nth (trees ts) 1))
   two_parts_end [] h = absurd (omega arith)
   two_parts_end (t ∷ []) h = absurd (omega arith)
-  two_parts_end (t ∷ u ∷ []) h = refl
+  two_parts_end (t ∷ u ∷ []) h = ap (λ b. ends_by flags t && b) (and-true (ends_by flags u))
   two_parts_end (t ∷ u ∷ v ∷ ts) h = absurd (omega arith)
 
-  three_parts_end : (ts : List Tree) → length ts ≡ 3 →
-      ((of_trees ts).earlier || (of_trees ts).last)
-      ≡ ((ends_by flags (nth (trees ts) 0) && ends_by flags (nth (trees ts) 1)) || ends_by flags (nth (trees ts) 2))
-  three_parts_end [] h = absurd (omega arith)
-  three_parts_end (t ∷ []) h = absurd (omega arith)
-  three_parts_end (t ∷ u ∷ []) h = absurd (omega arith)
-  three_parts_end (t ∷ u ∷ v ∷ []) h = refl
-  three_parts_end (t ∷ u ∷ v ∷ x ∷ ts) h = absurd (omega arith)
-
-  absent_ends : (a : Absent) (ts : List Tree) → length ts ≡ length (below_absent a) → all_parts (of_trees ts) ≡ ends_by flags (absent_over a (trees ts))
+  absent_ends : (a : Absent) (ts : List Tree) → length ts ≡ length (below_absent a) → all_end_by flags (trees ts) ≡ ends_by flags (absent_over a (trees ts))
   absent_ends (code_absent.Repeater' b e) ts h = one_part_ends ts h
   absent_ends (code_absent.Expression' b a c e) ts h = two_parts_end ts h
   absent_ends (code_absent.Stopper' b e) ts h = one_part_ends ts h
   absent_ends code_absent.Clear ts h = no_part_ends ts h
 
   over_ends : (e : Expr) (n : ℕ) (w : plain.Within) (ts : List Tree) → length ts ≡ length (below e) →
-      node_ends flags e (of_trees ts) ≡ ends_by flags (node_over e n w (trees ts))
-  over_ends (code.Concat' shape row) n w ts h = all-from no_parts ts
-  over_ends (code.Alt' shape row) n w ts h = some-from no_parts ts
-  over_ends (code.Group' b e) n w ts h = one_part_ends ts h
-  over_ends (code.LookAround' b e look) n w ts h = one_part_ends ts h
-  over_ends (code.Repeat' b e lo hi greedy) n w ts h = ap (λ x. (lo == 0) || x) (one_part_ends ts h)
-  over_ends (code.AtomicGroup' b e) n w ts h = one_part_ends ts h
-  over_ends (code.Conditional' b c d t x f) n w ts h = three_parts_end ts h
-  over_ends (code.Absent a) n w ts h = absent_ends a ts h
-  over_ends (code.DefineGroup' b e) n w ts h = one_part_ends ts h
+      node_ends flags e (parts_from e 0 (before_parts e) (map (ends_by flags) ts)) ≡ ends_by flags (node_over e n w (trees ts))
+  over_ends (code.Concat' shape row) n w ts h = all-from (code.Concat' shape row) (λ i p b. refl) 0 true ts
+  over_ends (code.Alt' shape row) n w ts h = some-from (code.Alt' shape row) (λ i p b. refl) 0 false ts
+  over_ends (code.Group' b e) n w ts h = all-from (code.Group' b e) (λ i p b. refl) 0 true ts ∙ one_part_ends ts h
+  over_ends (code.LookAround' b e look) n w ts h = all-from (code.LookAround' b e look) (λ i p b. refl) 0 true ts ∙ one_part_ends ts h
+  over_ends (code.Repeat' b e lo hi greedy) n w ts h =
+      ap (λ x. (lo == 0) || x) (all-from (code.Repeat' b e lo hi greedy) (λ i p b. refl) 0 true ts ∙ one_part_ends ts h)
+  over_ends (code.AtomicGroup' b e) n w ts h = all-from (code.AtomicGroup' b e) (λ i p b. refl) 0 true ts ∙ one_part_ends ts h
+  over_ends (code.Conditional' b c d t x f) n w [] h = absurd (omega arith)
+  over_ends (code.Conditional' b c d t x f) n w (p ∷ []) h = absurd (omega arith)
+  over_ends (code.Conditional' b c d t x f) n w (p ∷ q ∷ []) h = absurd (omega arith)
+  over_ends (code.Conditional' b c d t x f) n w (p ∷ q ∷ r ∷ []) h = refl
+  over_ends (code.Conditional' b c d t x f) n w (p ∷ q ∷ r ∷ s ∷ ts) h = absurd (omega arith)
+  over_ends (code.Absent a) n w ts h = all-from (code.Absent a) (λ i p b. refl) 0 true ts ∙ absent_ends a ts h
+  over_ends (code.DefineGroup' b e) n w ts h = all-from (code.DefineGroup' b e) (λ i p b. refl) 0 true ts ∙ one_part_ends ts h
   over_ends (code.SubroutineCall g) n w ts h = refl
-  over_ends e n w ts h = no_part_ends ts h
+  over_ends e n w ts h = all-from e (λ i p b. refl) 0 true ts ∙ no_part_ends ts h
 
   map-map : (is : List Info) → map ended is ≡ map (ends_by flags) (map info_tree is)
   map-map [] = refl
@@ -132,12 +118,12 @@ module _ (flags : List Bool) where
 
   -- the node ends where its parts say so
   pub ends-here : (known : Known) (i : Info) (n : ℕ) → IsSized known i → length (info_children i) ≤ n →
-      node_ends flags (info_facts i).expr (ends_of (take n (info_children i))) ≡ ends_by flags (info_tree i)
+      node_ends flags (info_facts i).expr (ends_of (info_facts i).expr (take n (info_children i))) ≡ ends_by flags (info_tree i)
   ends-here known i n found h =
       let f = info_facts i in
       let ts = map info_tree (info_children i) in
-      ap (λ l. node_ends flags f.expr (ends_of l)) (take_all n (info_children i) h)
-      ∙ ap (λ l. node_ends flags f.expr (parts_from no_parts l)) (map-map (info_children i))
+      ap (λ l. node_ends flags f.expr (ends_of f.expr l)) (take_all n (info_children i) h)
+      ∙ ap (λ l. node_ends flags f.expr (parts_from f.expr 0 (before_parts f.expr) l)) (map-map (info_children i))
       ∙ over_ends f.expr f.start_group f.within ts (length-map (info_children i) info_tree ∙ sized_parts known i found)
       ∙ ap (ends_by flags) (sym (tree_out i))
 
@@ -277,6 +263,12 @@ true_within : (flags : List Bool) (g : ℕ) → slice_index_or flags g false ≡
 true_within [] g h = refl
 true_within (b ∷ flags) zero h = h
 true_within (b ∷ flags) (suc g) h = true_within flags g h
+
+-- how many flags are set
+abbrev pub set_count : List Bool → ℕ
+set_count [] = 0
+set_count (true ∷ flags) = suc (set_count flags)
+set_count (false ∷ flags) = set_count flags
 
 -- each set flag is set there too
 abbrev pub Grows : List Bool → List Bool → Type 0

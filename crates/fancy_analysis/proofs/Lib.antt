@@ -5,7 +5,6 @@ pub mod InfoNodes
 pub mod LeastNames
 pub mod LimitRounds
 pub mod MadeNodes
-pub mod NoCalls
 pub mod RefusalNodes
 pub mod RoundSizes
 pub mod SearchSteps

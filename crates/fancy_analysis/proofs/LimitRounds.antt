@@ -2,6 +2,8 @@
 use Rattle.std.proofs.Common.{◌≡◌, ℕ, zero, suc, ◌+◌, ◌-◌, ◌<◌, ◌≤◌, Bool, true, false, if◌then◌else◌, sym, ap, ◌∙◌, arith, inl, inr, ◌*◌, ◌/◌, ◌||◌, List, [], ◌∷◌, Contains, length, take, get_or, refl, ⊎_elim, Option, Some, None, Result, Ok, Err, IfOk, IsTrue, IsFalse, MatchOption}
 use Rattle.std.proofs.lemmas.Bool.{cases_Bool, cases_lt}
 use Rattle.fancy_analysis.specs.Rounds.{rounds_from, Agree, named_by, names_one, same_sizes, size_rounds}
+use Rattle.std.specs.Bool.{beq}
+use Rattle.std.specs.Cmp.Lexicographic.{pointwise}
 use Rattle.std.specs.List.{list_any}
 use Rattle.std.specs.Option.{is_some}
 use Rattle.std.proofs.Math.Bool.{or-true}
@@ -16,12 +18,12 @@ use Rattle.fancy_expr.specs.declared.expr.Expr.{Expr}
 use Rattle.fancy_expr.specs.Exprs.{below, exprs, exprs_of_each}
 use Rattle.fancy_expr.specs.Views.{tree_of}
 use Rattle.fancy_expr.proofs.Exprs.{exprs-below}
-use Rattle.fancy_expr.proofs.Listed.{any-nodes, false_true, true_false}
+use Rattle.fancy_expr.proofs.Listed.{any-nodes, any_fails_at, false_true, true_false}
 use Rattle.fancy_expr.proofs.Walks.{each-taken}
 use Rattle.fancy_meaning.specs.Numbering.{numbered}
 use Rattle.fancy_expr.proofs.Numbered.{count-numbered}
 use Rattle.fancy_analysis.specs.AnalysisLimit.{analysis_rounds, whole_of}
-use Rattle.fancy_analysis.specs.Endings.{ending_rounds, next_ends, same_count}
+use Rattle.fancy_analysis.specs.Endings.{ending_rounds, next_ends}
 
 module _ {X : Type 0} (same : X → X → Bool) (next : X → X) where
   -- with so many rounds made, and so many in all, these are counted
@@ -100,19 +102,9 @@ module _ (test : Expr → Bool) where
   pub any_itself : (e : Expr) → test e ≡ true → list_any test (exprs e) ≡ true
   any_itself e h = ap (list_any test) (exprs-below e) ∙ ap (λ b. b || list_any test (exprs_of_each (below e))) h
 
-  none_contained : (es : List Expr) (x : Expr) → list_any test es ≡ false → Contains es x → test x ≡ true → ⊥
-  none_contained [] x none there h = omega (arith, there.1)
-  none_contained (e ∷ es) x none (zero, lt, at) h = true_false (sym (ap (λ b. b || list_any test es) (ap test at ∙ h)) ∙ none)
-  none_contained (e ∷ es) x none (suc k, lt, at) h =
-      none_contained es x (none_behind (test e) (list_any test es) none) (k, omega arith, at) h
-    where
-      none_behind : (a b : Bool) → (a || b) ≡ false → b ≡ false
-      none_behind false b q = q
-      none_behind true b q = absurd (true_false q)
-
 -- where nothing is named, all sizes agree
 pub all_agree : (a b : Known) (e : Expr) → list_any names_one (exprs e) ≡ false → Agree a b (exprs e)
-all_agree a b e none x there g is = absurd (none_contained names_one (exprs e) x none there (ap is_some is))
+all_agree a b e none x there g is = absurd (true_false (sym (ap is_some is) ∙ any_fails_at names_one (exprs e) x none there))
 
 -- what is the same by all agrees
 pub same_agree : (a b : Known) (es : List Expr) → a ≡ b → Agree a b es
@@ -176,10 +168,6 @@ told (Some x) P Q h = (λ t. h, λ f. absurd (true_is f)) where
   true_is : IsFalse true → ⊥
   true_is t = cc
 
-pub ok_weaker : {X E : Type 0} (r : Result X E) (P Q : X → Type 0) → ((x : X) → P x → Q x) → IfOk r P → IfOk r Q
-ok_weaker (Ok x) P Q f h = f x h
-ok_weaker (Err e) P Q f h = h
-
 pub with_names : (e : Expr) → list_any names_one (exprs e) ≡ true → list_any is_call (nodes (tree_of e)) ≡ false →
     analysis_rounds e ≡ size_rounds (whole_of e)
 unfolding analysis_rounds
@@ -210,7 +198,7 @@ sizes_at_most whole = counts_most same_sizes (next_round whole) (after_rounds wh
 
 pub endings_at_most : (whole : Tree) (n : ℕ) → ending_rounds whole n ≤ n
 unfolding ending_rounds
-endings_at_most whole n = counts_most same_count (next_ends whole) _ n
+endings_at_most whole n = counts_most (pointwise beq) (next_ends whole) _ n
 
 -- no more than groups for sizes, and one more for endings
 pub most_rounds : (e : Expr) → analysis_rounds e ≤ 2 * group_count (tree_of e) + 1

@@ -18,7 +18,6 @@ use Rattle.fancy_analysis.specs.Refusals.{refusal_of, HasNoRefusedNode, IsAnalys
 use Rattle.fancy_meaning.specs.Recursion.{IsLeftRecursive, CanEnd}
 use Rattle.fancy_expr.proofs.Listed.{any-map, any_passes, any_fails_at, true_false, false_true}
 use Rattle.fancy_expr.proofs.Numbered.{nodes-numbered, count-numbered}
-use Rattle.fancy_analysis.proofs.NoCalls.{leads_nowhere, no_read_after_call}
 use Rattle.fancy_analysis.specs.Names.{IsDescriptionOfLeast}
 
 -- ---- a test that some node passes
@@ -213,12 +212,6 @@ module _ (p : ParsedTree) (options : AnalysisOptions) where
   pub no_call_in : list_any is_call (nodes p.tree) ≡ false → list_any is_call (nodes whole) ≡ false
   no_call_in none = any-numbered is_call blind-call NoLook first p.tree ∙ none
 
-  pub no_left_in : list_any is_call (nodes whole) ≡ false → (g : ℕ) → ¬ IsLeftRecursive whole g
-  no_left_in none g r = leads_nowhere whole r.on_cycle r.on_cycle none r.cycle
-
-  pub no_late_in : list_any is_call (nodes whole) ≡ false → (g : ℕ) → ¬ ReadsAfterCall whole g
-  no_late_in none g r = no_read_after_call whole g none r
-
   -- ---- a group that is read is in range
 
   names_it : (g : ℕ) (x : Tree) → is_named (read_by x) g ≡ true → refers g x ≡ true
@@ -285,11 +278,11 @@ module _ (p : ParsedTree) (options : AnalysisOptions) where
   left_refused text d = before_end (left_recursion d.group text d.is_least d.describes)
 
   module _ (counted : p.total_groups ≡ group_count p.tree) (quiet : HasNoRefusedNode p options) where
-    pub without_calls : list_any is_call (nodes p.tree) ≡ false → IsAnalysable p options
+    pub without_calls : ((g : ℕ) → ¬ ReadsAfterCall whole_tree g) → ((g : ℕ) → ¬ IsLeftRecursive whole_tree g) → list_any is_call (nodes p.tree) ≡ false →
+        IsAnalysable p options
     unfolding numbered
-    without_calls none =
-        let none_in = no_call_in p options none in
-        accepted p options counted quiet (no_late_in p options none_in) (no_left_in p options none_in) (λ some cannot. true_false (sym some ∙ none_in))
+    without_calls no_late no_left none =
+        accepted p options counted quiet no_late no_left (λ some cannot. true_false (sym some ∙ no_call_in p options none))
 
     pub that_end : ((g : ℕ) → ¬ ReadsAfterCall whole_tree g) → ((g : ℕ) → ¬ IsLeftRecursive whole_tree g) → CanEnd whole_tree whole_tree → IsAnalysable p options
     unfolding numbered

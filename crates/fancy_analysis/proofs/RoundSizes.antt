@@ -14,18 +14,18 @@ use Rattle.fancy_info.proofs.OverParts.{over-parts}
 use Rattle.fancy_info.proofs.Unfolded.{tree_out, each_here}
 use Rattle.fancy_expr.proofs.NodeParts.{nodes-parts}
 use Rattle.fancy_expr.proofs.Walks.{taken}
-use Rattle.std.proofs.Math.Bool.{and-false}
-use Rattle.std.proofs.lemmas.Bool.{and_from, and_parts, eq-eqb, eqb-true, ne_eqb}
+use Rattle.std.specs.Bool.{beq}
+use Rattle.std.specs.Cmp.{booleans_Decides}
+use Rattle.std.proofs.lemmas.Bool.{and_parts, eq-eqb, eqb-true, ne_eqb}
 use Rattle.fancy_expr.proofs.Listed.{true_false}
-use Rattle.fancy_info.specs.Sized.{size_of}
-use Rattle.fancy_analysis.specs.Rounds.{same_bool, same_size, same_sizes}
+use Rattle.fancy_analysis.specs.Rounds.{same_size, same_sizes}
 use Rattle.fancy_meaning.specs.Numbering.{numbered_within}
 use Rattle.fancy_meaning.specs.Places.{range_from}
+use Rattle.fancy_analysis.proofs.EndingRules.{none_past as no_body}
 use Rattle.fancy_info.proofs.GroupNumbers.{numbers}
 use Rattle.fancy_meaning.specs.Tree as plain
 use Rattle.fancy_expr.specs.declared.expr.Absent.TheVariants as code_absent
 use Rattle.fancy_expr.specs.declared.expr.Expr.TheVariants as code
-use Rattle.fancy_info.specs.declared.size.Size as code_size
 
 module _ (known : Known) where
   -- the sizes of a tree's groups, in the order in which they open
@@ -153,11 +153,7 @@ module _ (known : Known) where
 
   -- past the last one there is none
   none_past : (k : ℕ) (gs : List (ℕ × Tree)) (g : ℕ) → map (λ h. h.0) gs ≡ range_from k (length gs) → k + length gs ≤ g → in_round gs g ≡ unknown
-  none_past k [] g at le = refl
-  none_past k (h ∷ gs) g at le =
-      let here : h.0 ≡ k = cc at in
-      let rest : map (λ x. x.0) gs ≡ range_from (suc k) (length gs) = cc at in
-      later_group h.0 h.1 gs g (omega arith) ∙ none_past (suc k) gs g rest (omega arith)
+  none_past k gs g at le = ap (size_in_round known) (no_body gs k g at le)
 
   targets : (whole : Tree) (n : ℕ) → map (λ g. size_in_round known (target whole g)) (range_from 1 n) ≡ map (in_round (groups whole)) (range_from 1 n)
   unfolding target
@@ -213,11 +209,6 @@ last_round whole i h = ap (after_rounds whole) h
 
 -- ---- sizes that are the same
 
-same_flag : (a b : Bool) → same_bool a b ≡ true → a ≡ b
-same_flag true b h = sym h
-same_flag false true h = absurd (true_false (sym h))
-same_flag false false h = refl
-
 same_fields : (a b : Size) → a.least ≡ b.least → a.most ≡ b.most → a.is_const ≡ b.is_const → a ≡ b
 same_fields a b least most flag =
     ap (λ x. record { least = x; most = a.most; is_const = a.is_const }) least
@@ -226,9 +217,9 @@ same_fields a b least most flag =
 
 same_here : (a b : Size) → same_size a b ≡ true → a ≡ b
 same_here a b h =
-    let parts = and_parts ((a.least == b.least) && (a.most == b.most)) (same_bool a.is_const b.is_const) h in
-    let first = and_parts (a.least == b.least) (a.most == b.most) parts.0 in
-    same_fields a b (eqb-true a.least b.least first.0) (eqb-true a.most b.most first.1) (same_flag a.is_const b.is_const parts.1)
+    let parts = and_parts (a.least == b.least) ((a.most == b.most) && beq a.is_const b.is_const) h in
+    let rest = and_parts (a.most == b.most) (beq a.is_const b.is_const) parts.1 in
+    same_fields a b (eqb-true a.least b.least parts.0) (eqb-true a.most b.most rest.0) ((booleans_Decides a.is_const b.is_const).0 rest.1)
 
 pub same_known : (a b : Known) → same_sizes a b ≡ true → a ≡ b
 same_known [] [] h = refl
@@ -237,34 +228,3 @@ same_known (x ∷ xs) [] h = absurd (true_false (sym h))
 same_known (x ∷ xs) (y ∷ ys) h =
     let parts = and_parts (same_size x y) (same_sizes xs ys) h in
     ap (λ s. s ∷ xs) (same_here x y parts.0) ∙ ap (λ l. y ∷ l) (same_known xs ys parts.1)
-
--- ---- as far as they were compared
-
-pub same_more : (xs ys : Known) (i : ℕ) → i < length xs → i < length ys → same_sizes (take i xs) (take i ys) ≡ true →
-    same_size (get_or xs i unknown) (get_or ys i unknown) ≡ true → same_sizes (take (suc i) xs) (take (suc i) ys) ≡ true
-same_more [] ys i p q before here = absurd (omega arith)
-same_more (x ∷ xs) [] i p q before here = absurd (omega arith)
-same_more (x ∷ xs) (y ∷ ys) zero p q before here = and_from (same_size x y) true here refl
-same_more (x ∷ xs) (y ∷ ys) (suc i) p q before here =
-    let parts = and_parts (same_size x y) (same_sizes (take i xs) (take i ys)) before in
-    and_from (same_size x y) (same_sizes (take (suc i) xs) (take (suc i) ys)) parts.0 (same_more xs ys i (omega arith) (omega arith) parts.1 here)
-
-pub differ_at : (xs ys : Known) (i : ℕ) → i < length xs → i < length ys → same_size (get_or xs i unknown) (get_or ys i unknown) ≡ false →
-    same_sizes xs ys ≡ false
-differ_at [] ys i p q h = absurd (omega arith)
-differ_at (x ∷ xs) [] i p q h = absurd (omega arith)
-differ_at (x ∷ xs) (y ∷ ys) zero p q h = ap (λ b. b && same_sizes xs ys) h
-differ_at (x ∷ xs) (y ∷ ys) (suc i) p q h =
-    ap (λ b. same_size x y && b) (differ_at xs ys i (omega arith) (omega arith) h) ∙ and-false (same_size x y)
-
-pub differ_in_length : (xs ys : Known) → length xs ≢ length ys → same_sizes xs ys ≡ false
-differ_in_length [] [] h = absurd (h refl)
-differ_in_length [] (y ∷ ys) h = refl
-differ_in_length (x ∷ xs) [] h = refl
-differ_in_length (x ∷ xs) (y ∷ ys) h =
-    ap (λ b. same_size x y && b) (differ_in_length xs ys (λ e. h (ap suc e))) ∙ and-false (same_size x y)
-
-pub mapped_at : (xs : List code_size.Size) (i : ℕ) (d : code_size.Size) → i < length xs → get_or (map size_of xs) i unknown ≡ size_of (get_or xs i d)
-mapped_at [] i d lt = absurd (omega arith)
-mapped_at (x ∷ xs) zero d lt = refl
-mapped_at (x ∷ xs) (suc i) d lt = mapped_at xs i d (omega arith)

@@ -1,5 +1,5 @@
 -- Searches along links: what is reached, and what leads into a cycle.
-use Rattle.std.proofs.Common.{◌≡◌, ◌⊎◌, zero, suc, List, ◌∷◌, Contains, refl, arith, inl, inr, ◌≢◌, ℕ, ◌+◌, ◌<◌, Bool, true, false, cond, [], length, get_or, ap, ◌∙◌, get_or-set_same, get_or-set_other, ◌++◌, map, All, Vec, Global, ⊎_elim, sym, subst, ◌≤◌, not, take, filter, replicate}
+use Rattle.std.proofs.Common.{◌≡◌, ◌⊎◌, zero, suc, List, ◌∷◌, Contains, refl, arith, inl, inr, ◌≢◌, ℕ, ◌+◌, ◌<◌, Bool, true, false, cond, [], length, get_or, ap, ◌∙◌, get_or-set_same, get_or-set_other, ◌++◌, map, All, Vec, Global, ⊎_elim, sym, subst, ◌≤◌, not, take, replicate}
 use Rattle.std.proofs.Math.ListN.{set}
 use Rattle.std.proofs.lemmas.Bool.{cases_eq, both_ways, cases_lt}
 use Rattle.std.proofs.lemmas.List.Sums.{sum_by-set}
@@ -237,7 +237,7 @@ reaching_first links ways before flags next whole clear r = record {
   ];
 }
 
-pub reaching_next : (links : List Link) (ways : List (Vec ℕ Global)) (before after : List Bool) (rest new : List ℕ) (m : ℕ) → AreWays links ways →
+pub reaching_next : (links : List Link) (ways : List (Vec ℕ Global)) (before after : List Bool) (rest new : List ℕ) (m : ℕ) → AreWays false links ways →
     IsReaching links ways before (rest ++ m ∷ []) → Reaches (listed ways m) before after rest new → IsReaching links ways after new
 reaching_next links ways before after rest new m w p r = record {
   whole = r.kept 0 p.whole;
@@ -261,7 +261,7 @@ reaching_next links ways before after rest new m w p r = record {
   ];
 }
 
-pub reaching_done : (links : List Link) (ways : List (Vec ℕ Global)) (flags : List Bool) → AreWays links ways → HasRoom links flags →
+pub reaching_done : (links : List Link) (ways : List (Vec ℕ Global)) (flags : List Bool) → AreWays false links ways → HasRoom links flags →
     IsReaching links ways flags [] → AreReached links flags
 reaching_done links ways flags w room p = record {
   room = room;
@@ -272,7 +272,7 @@ reaching_done links ways flags w room p = record {
   stays k d lt at inside =
       elim (p.on (get_or links k d).from at) [
         | inl bad ↦ absurd (none_in (get_or links k d).from bad)
-        | inr all ↦ all (get_or links k d).to (w.all k d lt) inside
+        | inr all ↦ all (get_or links k d).to (w.all k d lt refl) inside
       ]
 
 module _ (links : List Link) where
@@ -505,9 +505,6 @@ pub none_from : (links : List Link) (start : ℕ) (ways : Lists) (seen done : Li
     ¬ LeadsIntoCycle links n
 none_from links start ways seen done n s at = elim (s.is_open n at) [ inl d ↦ s.none n d | inr bad ↦ absurd (none_in n bad) ]
 
-pub none_past : (links : List Link) (seen : List Bool) (n : ℕ) → HasRoom links seen → length seen ≤ n → ¬ LeadsIntoCycle links n
-none_past links seen n room le c = let lt = cycle_inside links seen room n c in omega arith
-
 -- ---- less to do
 
 pub less_seen : (ways : Lists) (seen : List Bool) (path : List ℕ) (to : ℕ) → to < length seen → flag seen to ≡ false →
@@ -534,50 +531,17 @@ stays_set flags i n lt at = elim (flag_written flags i n true lt) [ inl w ↦ w.
 
 -- ---- at first
 
-abbrev picked_of : List Link → List Link
-picked_of links = filter (λ link. link.at_once) links
-
-pick_case : (b : Bool) (x link : Link) (links : List Link) → x.at_once ≡ b → Contains (cond b (x ∷ picked_of links) (picked_of links)) link →
-    (Contains (picked_of links) link → Contains links link × (link.at_once ≡ true)) → Contains (x ∷ links) link × (link.at_once ≡ true)
-pick_case true x link links is there rest = elim (contains_cases x link (picked_of links) there) [
-  | inl e ↦ (subst (Contains (x ∷ links)) e (contains_first x links), ap (λ l. l.at_once) (sym e) ∙ is)
-  | inr d ↦ let r = rest d in (contains_later x link links r.0, r.1)
-]
-pick_case false x link links is there rest = let r = rest there in (contains_later x link links r.0, r.1)
-
-picked : (links : List Link) (link : Link) → Contains (picked_of links) link → Contains links link × (link.at_once ≡ true)
-picked [] link there = absurd (omega (arith, there.1))
-picked (x ∷ links) link there = pick_case x.at_once x link links refl there (picked links link)
-
-keep_case : (b : Bool) (x link : Link) (links : List Link) → x.at_once ≡ b → Contains (x ∷ links) link → link.at_once ≡ true →
-    (Contains links link → Contains (picked_of links) link) → Contains (cond b (x ∷ picked_of links) (picked_of links)) link
-keep_case true x link links is there at rest = elim (contains_cases x link links there) [
-  | inl e ↦ subst (Contains (x ∷ picked_of links)) e (contains_first x (picked_of links))
-  | inr d ↦ contains_later x link (picked_of links) (rest d)
-]
-keep_case false x link links is there at rest = elim (contains_cases x link links there) [
-  | inl e ↦ absurd (both_ways x.at_once is (ap (λ l. l.at_once) e ∙ at))
-  | inr d ↦ rest d
-]
-
-kept : (links : List Link) (link : Link) → Contains links link → link.at_once ≡ true → Contains (picked_of links) link
-kept [] link there at = absurd (omega (arith, there.1))
-kept (x ∷ links) link there at = keep_case x.at_once x link links refl there at (λ d. kept links link d at)
-
 pub room_all : (links : List Link) (seen : List Bool) (n : ℕ) → 0 < n → length seen ≡ n → All (λ link. link.from < n) links → HasRoom links seen
 room_all links seen n some long all = record { whole = omega arith; each = λ k d lt. let h = all k d lt in omega arith }
 
-pub first_state : (links : List Link) (ways : Lists) (seen done : List Bool) (n : ℕ) → HasRoom links seen → length seen ≡ n → AreWays (picked_of links) ways →
+pub first_state : (links : List Link) (ways : Lists) (seen done : List Bool) (n : ℕ) → HasRoom links seen → length seen ≡ n → AreWays true links ways →
     seen ≡ replicate n false → done ≡ replicate n false → IsState links 0 ways seen done []
 first_state links ways seen done n room long w unseen undone = record {
   room = room;
   dones = ap length undone ∙ length-replicate n false ∙ sym long;
-  only = λ m h there.
-      let l = w.only m h there in
-      let p = picked links l.link l.is_there in
-      record { link = l.link; is_there = p.0; leads_from = l.leads_from; leads_to = l.leads_to; at_once = p.1 };
+  only = w.only;
   all = λ m h l.
-      let there = All-contains (λ link. Contains (listed ways link.from) link.to) (picked_of links) l.link w.all (kept links l.link l.is_there l.at_once) in
+      let there = All-contains (λ link. link.at_once ≡ true → Contains (listed ways link.from) link.to) links l.link w.all l.is_there l.is_one in
       inl (subst (Contains (listed ways m)) l.leads_to (subst (λ k. Contains (listed ways k) l.link.to) l.leads_from there));
   none = λ m at c.
       let lt = cycle_inside links seen room m c in

@@ -1,5 +1,7 @@
 -- Which parts can end, where flags say it of the targets, and the rounds of those flags.
-use Rattle.std.specs.Prelude.{◌≡◌, ℕ, zero, suc, ◌+◌, ◌≤◌, max, Bool, true, false, ◌&&◌, ◌||◌, ◌==◌, List, [], ◌∷◌, length, map, replicate, slice_index_or}
+use Rattle.std.specs.Prelude.{◌≡◌, ℕ, zero, suc, ◌+◌, ◌≤◌, max, Bool, true, false, ◌&&◌, ◌||◌, ◌==◌, if◌then◌else◌, List, length, map, replicate, slice_index_or}
+use Rattle.std.specs.Bool.{beq}
+use Rattle.std.specs.Cmp.Lexicographic.{pointwise}
 use Rattle.std.specs.List.{list_any}
 use Rattle.fancy_meaning.specs.Tree as plain
 use Rattle.fancy_meaning.specs.Tree.{Tree, Trees, none, more}
@@ -7,7 +9,6 @@ use Rattle.fancy_meaning.specs.Nodes.{nodes, group_count}
 use Rattle.fancy_meaning.specs.Numbering.{numbered}
 use Rattle.fancy_meaning.specs.Places.{range_from}
 use Rattle.fancy_meaning.specs.Options.{Analysis}
-use Rattle.fancy_analysis.specs.declared.endings.PartEnds.{PartEnds}
 use Rattle.fancy_info.specs.declared.info.Info.{Info}
 use Rattle.fancy_info.specs.declared.info.Info.TheViews.{out-Info}
 use Rattle.fancy_expr.specs.declared.expr.Expr.{Expr}
@@ -62,20 +63,22 @@ abbrev mutual
   some_end_by flags none = false
   some_end_by flags (more e es) = ends_by flags e || some_end_by flags es
 
--- one part more
-abbrev pub and_then : PartEnds → Bool → PartEnds
-and_then p b = record { earlier = p.earlier && p.last; last = b; some = p.some || b }
+-- how the parts of a node end, before the first one
+abbrev pub before_parts : Expr → Bool
+before_parts (code.Alt' shape row) = false
+before_parts e = true
 
-abbrev pub no_parts : PartEnds
-no_parts = record { earlier = true; last = true; some = false }
+-- the same with one part more
+abbrev pub with_part : Expr → ℕ → Bool → Bool → Bool
+with_part (code.Alt' shape row) i so_far ends = so_far || ends
+with_part (code.Conditional' b c d t x f) i so_far ends = if i == 2 then so_far || ends else so_far && ends
+with_part e i so_far ends = so_far && ends
 
 -- a node ends, by how its parts do
-abbrev pub node_ends : List Bool → Expr → PartEnds → Bool
-node_ends flags (code.Alt' shape row) p = p.some
-node_ends flags (code.Repeat' b e lo hi greedy) p = (lo == 0) || (p.earlier && p.last)
-node_ends flags (code.Conditional' b c d t x f) p = p.earlier || p.last
-node_ends flags (code.SubroutineCall g) p = slice_index_or flags g true
-node_ends flags e p = p.earlier && p.last
+abbrev pub node_ends : List Bool → Expr → Bool → Bool
+node_ends flags (code.Repeat' b e lo hi greedy) parts = (lo == 0) || parts
+node_ends flags (code.SubroutineCall g) parts = slice_index_or flags g true
+node_ends flags e parts = parts
 
 -- the node is group g, and ends
 abbrev pub is_ended_group : List Bool → ℕ → Tree → Bool
@@ -96,20 +99,11 @@ abbrev pub target_ends : List Bool → Tree → ℕ → Bool
 target_ends flags whole zero = ends_by flags whole
 target_ends flags whole (suc g) = group_ends flags whole (suc g)
 
--- how many flags are set
-abbrev pub set_count : List Bool → ℕ
-set_count [] = 0
-set_count (true ∷ flags) = suc (set_count flags)
-set_count (false ∷ flags) = set_count flags
-
 -- the flags of one round more: those that are set stay so, and each target is set that ends by them
 abbrev pub next_ends : Tree → List Bool → List Bool
 next_ends whole flags =
     map (λ g. slice_index_or flags g false || target_ends flags whole g) (range_from 0 (length flags))
 
-abbrev pub same_count : List Bool → List Bool → Bool
-same_count a b = set_count a == set_count b
-
 -- how many rounds find a target that can end, up to the first that finds none, with so many flags
 unfoldable pub ending_rounds : Tree → ℕ → ℕ
-ending_rounds whole n = rounds_from same_count (next_ends whole) (replicate n false) n
+ending_rounds whole n = rounds_from (pointwise beq) (next_ends whole) (replicate n false) n

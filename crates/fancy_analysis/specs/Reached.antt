@@ -1,23 +1,22 @@
 -- What links reach, what leads into a cycle, and the depth-first search for one.
-use Rattle.std.specs.Prelude.{◌≡◌, ℕ, ◌<◌, Bool, true, false, not, ◌⊎◌, ◌+◌, ◌≤◌, List, [], Vec, length, map, Contains, All, slice_index_or, count_by, ◌*◌, ◌∷◌, ◌++◌, slice_set, sum_by}
+use Rattle.std.specs.Prelude.{◌≡◌, ℕ, ◌<◌, Bool, true, false, not, ◌||◌, ◌⊎◌, ◌+◌, ◌≤◌, List, [], Vec, length, map, Contains, All, slice_index_or, count_by, ◌*◌, ◌∷◌, ◌++◌, sum_by}
 use Rattle.std.specs.Global.{Global}
 use Rattle.fancy_analysis.specs.declared.links.Link.{Link}
 use Rattle.fancy_analysis.specs.declared.cycle_search.CycleSearch.{CycleSearch}
 
--- a link leads from one number to another
-pub record IsLinked (links : List Link) (from to : ℕ) : Type 0 where
+-- a link leads from one number to another, or a link at once
+pub record IsLink (at_once : Bool) (links : List Link) (from to : ℕ) : Type 0 where
   pub link : Link
   pub is_there : Contains links link
   pub leads_from : link.from ≡ from
   pub leads_to : link.to ≡ to
+  pub is_one : (not at_once || link.at_once) ≡ true
 
--- a link at once does
-pub record IsLinkedAtOnce (links : List Link) (from to : ℕ) : Type 0 where
-  pub link : Link
-  pub is_there : Contains links link
-  pub leads_from : link.from ≡ from
-  pub leads_to : link.to ≡ to
-  pub at_once : link.at_once ≡ true
+abbrev pub IsLinked : List Link → ℕ → ℕ → Type 0
+IsLinked links = IsLink false links
+
+abbrev pub IsLinkedAtOnce : List Link → ℕ → ℕ → Type 0
+IsLinkedAtOnce links = IsLink true links
 
 -- what is reached from the whole tree
 pub data IsReached (links : List Link) : ℕ → Type 0 where
@@ -59,10 +58,10 @@ pub record HasRoom (links : List Link) (flags : List Bool) : Type 0 where
   pub whole : 0 < length flags
   pub each : All (λ link. link.from < length flags) links
 
--- under each number, to where links lead from it
-pub record AreWays (links : List Link) (ways : List (Vec ℕ Global)) : Type 0 where
-  pub only : (g h : ℕ) → Contains (listed ways g) h → IsLinked links g h
-  pub all : All (λ link. Contains (listed ways link.from) link.to) links
+-- under each number, to where links lead from it, or links at once
+pub record AreWays (at_once : Bool) (links : List Link) (ways : List (Vec ℕ Global)) : Type 0 where
+  pub only : (g h : ℕ) → Contains (listed ways g) h → IsLink at_once links g h
+  pub all : All (λ link. (not at_once || link.at_once) ≡ true → Contains (listed ways link.from) link.to) links
 
 -- the flags of these numbers are set, and the numbers whose flags were not yet set are added to those that come next
 pub record Reaches (numbers : List ℕ) (before after : List Bool) (old new : List ℕ) : Type 0 where
@@ -129,29 +128,6 @@ left_in s = left_of s.ways.items s.seen.items s.path.items
 pub record IsLast (ns : List ℕ) (n : ℕ) : Type 0 where
   pub before : List ℕ
   pub is : ns ≡ before ++ n ∷ []
-
--- the search goes on to a number
-pub record Enters (n : ℕ) (old new : CycleSearch) : Type 0 where
-  pub ways : new.ways.items ≡ old.ways.items
-  pub seen : new.seen.items ≡ slice_set old.seen.items n true
-  pub done : new.done.items ≡ old.done.items
-  pub path : new.path.items ≡ old.path.items ++ n ∷ []
-
--- it goes back from a number
-pub record Leaves (n : ℕ) (old new : CycleSearch) : Type 0 where
-  pub ways : new.ways.items ≡ old.ways.items
-  pub seen : new.seen.items ≡ old.seen.items
-  pub done : new.done.items ≡ slice_set old.done.items n true
-  pub path : (before : List ℕ) → old.path.items ≡ before ++ n ∷ [] → new.path.items ≡ before
-
--- it lets the last link from a number go
-pub record Drops (n : ℕ) (old new : CycleSearch) : Type 0 where
-  pub list : Vec ℕ Global
-  pub ways : new.ways.items ≡ slice_set old.ways.items n list
-  pub seen : new.seen.items ≡ old.seen.items
-  pub done : new.done.items ≡ old.done.items
-  pub path : new.path.items ≡ old.path.items
-  pub last : (before : List ℕ) (h : ℕ) → listed old.ways.items n ≡ before ++ h ∷ [] → list.items ≡ before
 
 -- a step finds a cycle, or the search goes on with less to do
 pub record StepsOn (links : List Link) (start : ℕ) (old new : CycleSearch) (found : Bool) : Type 0 where

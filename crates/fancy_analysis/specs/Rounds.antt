@@ -1,5 +1,7 @@
 -- Rounds that go on until one changes nothing, and those in which the sizes of groups are computed.
-use Rattle.std.specs.Prelude.{◌≡◌, ℕ, zero, suc, ◌≤◌, Bool, true, false, ◌&&◌, not, ◌==◌, List, [], ◌∷◌, Contains, Option, Some, None, is_some, map, if◌then◌else◌}
+use Rattle.std.specs.Prelude.{◌≡◌, ℕ, zero, suc, ◌≤◌, Bool, ◌&&◌, ◌==◌, List, Contains, Option, Some, None, is_some, map, if◌then◌else◌}
+use Rattle.std.specs.Bool.{beq}
+use Rattle.std.specs.Cmp.Lexicographic.{pointwise}
 use Rattle.fancy_meaning.specs.Tree.{Tree, Backref, BackrefWithLevel, SubroutineCall}
 use Rattle.fancy_meaning.specs.Nodes.{group_count}
 use Rattle.fancy_meaning.specs.Sizes.{Size, Known, after_rounds, known_of, next_round, size_of_target}
@@ -13,17 +15,11 @@ abbrev pub rounds_from : {X : Type 0} → (X → X → Bool) → (X → X) → X
 rounds_from same next x zero = 0
 rounds_from same next x (suc n) = if same (next x) x then 0 else suc (rounds_from same next (next x) n)
 
-abbrev pub same_bool : Bool → Bool → Bool
-same_bool true b = b
-same_bool false b = not b
-
 abbrev pub same_size : Size → Size → Bool
-same_size a b = (a.least == b.least) && (a.most == b.most) && same_bool a.is_const b.is_const
+same_size a b = (a.least == b.least) && ((a.most == b.most) && beq a.is_const b.is_const)
 
 abbrev pub same_sizes : Known → Known → Bool
-same_sizes [] [] = true
-same_sizes (x ∷ xs) (y ∷ ys) = same_size x y && same_sizes xs ys
-same_sizes xs ys = false
+same_sizes = pointwise same_size
 
 -- how many of the rounds of the definition change a size, up to the first that changes none
 unfoldable pub size_rounds : Tree → ℕ

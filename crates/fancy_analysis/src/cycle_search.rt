@@ -1,7 +1,7 @@
 //! Links at once that lead into a cycle: one depth-first search, begun at each target that is reached.
 
-ghost use Rattle.std.specs.Prelude.{◌≡◌, ◌<◌, ◌≤◌, ◌⊎◌, ◌++◌, ◌∷◌, ℕ, [], All, IfOk, IsFalse, IsTrue, List, MatchOption, filter, length, slice_set, true};
-ghost use Rattle.fancy_analysis.specs.Reached.{Drops, Enters, IsLast, IsSearching, Leaves, StepsOn, Tells, is_done, IsLeastIntoCycle, IsReached, LeadsIntoCycle, flag, listed};
+ghost use Rattle.std.specs.Prelude.{◌≡◌, ◌<◌, ◌++◌, ◌∷◌, ℕ, [], All, IfOk, List, MatchOption, slice_set, true};
+ghost use Rattle.fancy_analysis.specs.Reached.{IsLast, IsSearching, StepsOn, Tells, is_done, IsLeastIntoCycle, IsReached, LeadsIntoCycle, listed};
 
 use crate::links::Link;
 use crate::reached::{is_set, reached, ways};
@@ -29,8 +29,7 @@ impl CycleSearch {
         ensures searching { IfOk result (λ search. IsSearching links.now 0 search) }
         ensures idle { IfOk result (λ search. search.path.items ≡ []) }
     {
-        let at_once = links_at_once(alloc, links)?;
-        let ways = ways(alloc, &at_once, numbers)?;
+        let ways = ways(alloc, links, numbers, true)?;
         let seen = no_flags(alloc, numbers)?;
         let done = no_flags(alloc, numbers)?;
         Ok(CycleSearch {
@@ -39,33 +38,6 @@ impl CycleSearch {
             done,
             path: Vec::new(alloc),
         })
-    }
-
-    /// Goes on to a number.
-    fn enter(&mut self, number: usize) -> Result<(), AllocError>
-        ensures { IfOk result (λ _. Enters number self.old self.new) }
-    {
-        set(&mut self.seen, number);
-        self.path.push(number)?;
-        Ok(())
-    }
-
-    /// Goes back from the last number.
-    fn leave(&mut self, number: usize)
-        ensures { Leaves number self.old self.new }
-    {
-        set(&mut self.done, number);
-        drop_last(&mut self.path);
-    }
-
-    /// Lets the last link from a number go.
-    fn drop_way(&mut self, number: usize)
-        ensures { number < length self.old.ways.items → Drops number self.old self.new }
-    {
-        if number >= self.ways.len() {
-            return;
-        }
-        drop_last(&mut self.ways[number]);
     }
 
     /// Where the last link from a number leads.
@@ -88,75 +60,48 @@ impl CycleSearch {
         }
     }
 
-    /// Follows the last link from the number at the end of the path. Tells whether it leads into a cycle.
-    fn follow(&mut self, number: usize, to: usize) -> Result<bool, AllocError>
-        ensures { (links : List Link) (start : ℕ)
-            → IsSearching links start self.old
-            → IsLast self.old.path.items number
-            → IsLast (listed self.old.ways.items number) to
-            → IfOk result (λ found. StepsOn links start self.old self.new found) }
-    {
-        if self.is_done(to) {
-            self.drop_way(number);
-            return Ok(false);
-        }
-        if is_set(&self.seen, to) {
-            return Ok(true);
-        }
-        self.enter(to)?;
-        Ok(false)
-    }
-
-    /// One step from the number at the end of the path. Tells whether a cycle is found.
+    /// Follows the last link from the number at the end of the path, or goes back where none is left. Tells whether it
+    /// leads into a cycle.
     fn step(&mut self, number: usize) -> Result<bool, AllocError>
         ensures { (links : List Link) (start : ℕ)
             → IsSearching links start self.old
             → IsLast self.old.path.items number
             → IfOk result (λ found. StepsOn links start self.old self.new found) }
     {
-        match self.way(number) {
-            Some(to) => self.follow(number, to),
-            None => {
-                self.leave(number);
-                Ok(false)
-            }
+        let Some(to) = self.way(number) else {
+            set(&mut self.done, number);
+            drop_last(&mut self.path);
+            return Ok(false);
+        };
+        if self.is_done(to) {
+            drop_last(&mut self.ways[number]);
+            return Ok(false);
         }
+        if is_set(&self.seen, to) {
+            return Ok(true);
+        }
+        set(&mut self.seen, to);
+        self.path.push(to)?;
+        Ok(false)
     }
 
-    /// Whether links lead into a cycle from a number at which the search did not come yet.
+    /// Whether links lead into a cycle from a number.
     fn finds_cycle(&mut self, links: &[Link], start: usize) -> Result<bool, AllocError>
         requires searching { IsSearching links.now 0 self.old }
         requires idle { self.old.path.items ≡ [] }
-        requires within { start < length self.old.seen.items }
         ensures { IfOk result (λ found. Tells links.now start self.new found) }
     {
-        self.enter(start)?;
+        if self.is_done(start) {
+            return Ok(false);
+        }
+        set(&mut self.seen, start);
+        self.path.push(start)?;
         while let Some(number) = last_of(&self.path) {
             if self.step(number)? {
                 return Ok(true);
             }
         }
         Ok(false)
-    }
-
-    /// The search did not come at a number that has a flag.
-    fn is_new(&self, number: usize) -> bool
-        ensures new { IsTrue result → number < length self.now.seen.items }
-        ensures old { IsFalse result → (flag self.now.seen.items number ≡ true) ⊎ (length self.now.seen.items ≤ number) }
-    {
-        number < self.seen.len() && !self.seen[number]
-    }
-
-    /// Whether links lead into a cycle from a number.
-    fn leads(&mut self, links: &[Link], number: usize) -> Result<bool, AllocError>
-        requires searching { IsSearching links.now 0 self.old }
-        requires idle { self.old.path.items ≡ [] }
-        ensures { IfOk result (λ found. Tells links.now number self.new found) }
-    {
-        if !self.is_new(number) {
-            return Ok(false);
-        }
-        self.finds_cycle(links, number)
     }
 }
 
@@ -184,17 +129,6 @@ fn last_of(path: &[usize]) -> Option<usize>
     }
 }
 
-/// The links before which nothing is taken.
-fn links_at_once(alloc: Global, links: &[Link]) -> Result<Vec<Link>, AllocError>
-    ensures { IfOk result (λ v. v.items ≡ filter (λ link. link.at_once) links.now) }
-{
-    links
-        .iter()
-        .copied()
-        .filter(|link| link.at_once)
-        .collect(alloc)
-}
-
 /// The least target that is reached and from which links at once lead into a cycle.
 pub fn least_into_cycle(alloc: Global, links: &[Link]) -> Result<Option<usize>, AllocError>
     ensures { IfOk
@@ -205,10 +139,10 @@ pub fn least_into_cycle(alloc: Global, links: &[Link]) -> Result<Option<usize>, 
     let reached = reached(alloc, links)?;
     let mut search = CycleSearch::of(alloc, links, reached.len())?;
     for number in 0..reached.len() {
-        if !reached[number] {
+        if !is_set(&reached, number) {
             continue;
         }
-        if search.leads(links, number)? {
+        if search.finds_cycle(links, number)? {
             return Ok(Some(number));
         }
     }

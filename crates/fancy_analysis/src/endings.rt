@@ -4,7 +4,7 @@ ghost use Rattle.std.specs.Prelude.{◌≡◌, ◌&&◌, ◌||◌, ◌↔◌, �
 ghost use Rattle.fancy_meaning.specs.Recursion.{CanEnd};
 ghost use Rattle.fancy_meaning.specs.Sizes.{Known};
 ghost use Rattle.fancy_meaning.specs.Tree as plain;
-ghost use Rattle.fancy_analysis.specs.Endings.{IsRootOf, and_then, ending_rounds, ends_by, flag_count, group_ends, is_own_end, no_parts, node_ends, set_count, target_ends};
+ghost use Rattle.fancy_analysis.specs.Endings.{IsRootOf, before_parts, ending_rounds, ends_by, flag_count, group_ends, is_own_end, node_ends, target_ends, with_part};
 ghost use Rattle.fancy_analysis.specs.Made.{IsSized};
 ghost use Rattle.fancy_info.specs.Infos.{info_tree};
 ghost use Rattle.fancy_info.specs.declared.info.Info.TheViews.{out-Info};
@@ -14,41 +14,24 @@ use fancy_expr::expr::Expr;
 use fancy_info::info::Info;
 use std::alloc::{AllocError, Global};
 
-/// How the parts of a node end.
-#[derive(Clone, Copy)]
-struct PartEnds {
-    /// All but the last one end.
-    earlier: bool,
-    last: bool,
-    /// One of them ends.
-    some: bool,
+/// How the parts of a node end, before the first one.
+fn before_parts(expr: &Expr) -> bool
+    ensures { result ≡ before_parts expr.now }
+{
+    match expr {
+        Expr::Alt(_) => false,
+        _ => true,
+    }
 }
 
-impl PartEnds {
-    fn none() -> PartEnds
-        ensures { result ≡ no_parts }
-    {
-        PartEnds {
-            earlier: true,
-            last: true,
-            some: false,
-        }
-    }
-
-    fn and_then(self, ends: bool) -> PartEnds
-        ensures { result ≡ and_then self ends }
-    {
-        PartEnds {
-            earlier: self.earlier && self.last,
-            last: ends,
-            some: self.some || ends,
-        }
-    }
-
-    fn all(self) -> bool
-        ensures { result ≡ (self.earlier && self.last) }
-    {
-        self.earlier && self.last
+/// The same with one part more. The third part of a conditional ends instead of the others.
+fn with_part(expr: &Expr, part: usize, so_far: bool, ends: bool) -> bool
+    ensures { result ≡ with_part expr.now part so_far ends }
+{
+    match expr {
+        Expr::Alt(_) => so_far || ends,
+        Expr::Conditional { .. } if part == 2 => so_far || ends,
+        _ => so_far && ends,
     }
 }
 
@@ -63,15 +46,13 @@ fn call_ends(flags: &[bool], group: usize) -> bool
 }
 
 /// Whether a node ends, by how its parts do.
-fn node_ends(flags: &[bool], expr: &Expr, parts: PartEnds) -> bool
+fn node_ends(flags: &[bool], expr: &Expr, parts: bool) -> bool
     ensures { result ≡ node_ends flags.now expr.now parts }
 {
     match expr {
-        Expr::Alt(_) => parts.some,
-        Expr::Repeat { lo, .. } => *lo == 0 || parts.all(),
-        Expr::Conditional { .. } => parts.earlier || parts.last,
+        Expr::Repeat { lo, .. } => *lo == 0 || parts,
         Expr::SubroutineCall(group) => call_ends(flags, *group),
-        _ => parts.all(),
+        _ => parts,
     }
 }
 
@@ -105,26 +86,14 @@ fn find_ends(flags: &[bool], info: &Info, next: &mut [bool]) -> bool
         ≡ (slice_index_or next.old g false ||
         (nat_lt g (length next.old) && group_ends flags.now (info_tree info.now) g)) }
 {
-    let mut parts = PartEnds::none();
-    for child in &info.children {
+    let mut parts = before_parts(info.expr);
+    for (i, child) in info.children.iter().enumerate() {
         let ends = find_ends(flags, child, next);
-        parts = parts.and_then(ends);
+        parts = with_part(info.expr, i, parts, ends);
     }
     let ends = node_ends(flags, info.expr, parts);
     set_flag(info.expr, info.start_group, ends, next);
     ends
-}
-
-fn count_set(flags: &[bool]) -> usize
-    ensures { result ≡ set_count flags.now }
-{
-    let mut count: usize = 0;
-    for i in 0..flags.len() {
-        if flags[i] {
-            count += 1;
-        }
-    }
-    count
 }
 
 /// Sets the flags of the targets that end by the flags. Those that are set before stay so.
@@ -176,7 +145,7 @@ pub fn ends_within(alloc: Global, root: &Info, most: usize) -> Result<Option<boo
     let mut flags = no_flags(alloc, root.end_group.max(1))?;
     for round in 0..flags.len() {
         let next = next_flags(alloc, root, &flags)?;
-        if count_set(&next) == count_set(&flags) {
+        if next == flags {
             return Ok(Some(flags[0]));
         }
         if round >= most {

@@ -1,6 +1,6 @@
 //! Links from target to target: the tracked calls of a tree, and its outer groups.
 
-ghost use Rattle.std.specs.Prelude.{◌≡◌, ◌++◌, IfOk, option_to_list};
+ghost use Rattle.std.specs.Prelude.{◌≡◌, ◌++◌, ◌||◌, IfOk, not, option_to_list};
 ghost use Rattle.fancy_meaning.specs.Sizes.{known_of, size};
 ghost use Rattle.fancy_meaning.specs.Spots as plain_spots;
 ghost use Rattle.fancy_meaning.specs.Tree as plain;
@@ -19,6 +19,15 @@ pub struct Link {
     pub to: usize,
     /// It is a call before which nothing is taken.
     pub at_once: bool,
+}
+
+impl Link {
+    /// It is one of all links, or of those at once.
+    pub fn is_one(self, at_once: bool) -> bool
+        ensures { result ≡ (not at_once || self.at_once) }
+    {
+        !at_once || self.at_once
+    }
 }
 
 /// Where a node stands.

@@ -62,15 +62,22 @@ fn list_under(lists: &mut Vec<Vec<usize>>, number: usize, to: usize) -> Result<(
     Ok(())
 }
 
-/// Under each of so many numbers, to where links lead from it.
-pub fn ways(alloc: Global, links: &[Link], numbers: usize) -> Result<Vec<Vec<usize>>, AllocError>
+/// Under each of so many numbers, to where links lead from it, or links at once.
+pub fn ways(
+    alloc: Global,
+    links: &[Link],
+    numbers: usize,
+    at_once: bool,
+) -> Result<Vec<Vec<usize>>, AllocError>
     requires { All (λ link. link.from < numbers) links.now }
     ensures length { IfOk result (λ v. length v.items ≡ numbers) }
-    ensures ways { IfOk result (λ v. AreWays links.now v.items) }
+    ensures ways { IfOk result (λ v. AreWays at_once links.now v.items) }
 {
     let mut ways = no_lists(alloc, numbers)?;
     for link in links {
-        list_under(&mut ways, link.from, link.to)?;
+        if link.is_one(at_once) {
+            list_under(&mut ways, link.from, link.to)?;
+        }
     }
     Ok(ways)
 }
@@ -103,7 +110,7 @@ pub fn reached(alloc: Global, links: &[Link]) -> Result<Vec<bool>, AllocError>
     ensures { IfOk result (λ v. AreReached links.now v.items) }
 {
     let mut flags = flags_for(alloc, links)?;
-    let ways = ways(alloc, links, flags.len())?;
+    let ways = ways(alloc, links, flags.len(), false)?;
     let mut next = Vec::new(alloc);
     reach(0, &mut flags, &mut next)?;
     while let Some(number) = next.pop() {

@@ -123,14 +123,14 @@ pub fn call_refusal(
         (λ error. AnalysisRefuses (parsed_of tree.now) options (error_of error)))
         (λ error. error ≡ Memory) }
 {
-    if !has_node(&tree.expr, Question::IsCall) {
-        return Ok(None);
-    }
     if reads_after_call(root) {
         return Ok(Some(CompileError::FeatureNotYetSupported));
     }
     if let Some(text) = left_recursion(alloc, root, &tree.named_groups)? {
         return Ok(Some(CompileError::LeftRecursiveSubroutineCall(text)));
+    }
+    if !has_node(&tree.expr, Question::IsCall) {
+        return Ok(None);
     }
     if can_end(alloc, root)? {
         Ok(None)

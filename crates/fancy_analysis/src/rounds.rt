@@ -8,7 +8,7 @@ ghost use Rattle.fancy_meaning.specs.Tree as plain;
 ghost use Rattle.fancy_meaning.specs.WellFormed.{most_groups};
 ghost use Rattle.fancy_info.specs.Infos.{info_tree};
 ghost use Rattle.fancy_analysis.specs.Made.{IsSized, from_0, from_1, own_size, tables_known};
-ghost use Rattle.fancy_analysis.specs.Rounds.{AreRounds, same_size, same_sizes, size_rounds};
+ghost use Rattle.fancy_analysis.specs.Rounds.{AreRounds, size_rounds};
 ghost use Rattle.fancy_expr.specs.Views.{tree_of};
 ghost use Rattle.fancy_info.specs.declared.info.Info.TheViews.{out-Info};
 ghost use Rattle.fancy_info.specs.Sized.{size_of};
@@ -49,26 +49,6 @@ fn add_sizes(info: &Info, table: &mut Vec<Size>) -> Result<(), AllocError>
         add_sizes(child, table)?;
     }
     Ok(())
-}
-
-fn is_same(a: Size, b: Size) -> bool
-    ensures { result ≡ same_size (size_of a) (size_of b) }
-{
-    a.least == b.least && a.most == b.most && a.is_const == b.is_const
-}
-
-fn are_same(a: &[Size], b: &[Size]) -> bool
-    ensures { result ≡ same_sizes (map size_of a.now) (map size_of b.now) }
-{
-    if a.len() != b.len() {
-        return false;
-    }
-    for i in 0..a.len() {
-        if !is_same(a[i], b[i]) {
-            return false;
-        }
-    }
-    true
 }
 
 fn unknown_sizes(alloc: Global, count: usize) -> Result<Vec<Size>, AllocError>
@@ -161,7 +141,7 @@ pub fn sizes_by_rounds(
             reads,
         };
         let next = next_sizes(alloc, &tables, tree, first)?;
-        if are_same(&next, &known) {
+        if next == known {
             return Ok(Some(SizeRounds {
                 known,
                 count: round,

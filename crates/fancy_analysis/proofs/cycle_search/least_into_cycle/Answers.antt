@@ -1,17 +1,15 @@
-use Rattle.std.proofs.Common.{◌≡◌, true, false, sym, ◌∙◌, arith}
-use Rattle.std.proofs.lemmas.List.{get_or_default}
+use Rattle.std.proofs.Common.{◌≡◌, true, false, sym, ap, ◌∙◌, arith}
 use Rattle.fancy_expr.proofs.Listed.{true_false}
 use Rattle.fancy_analysis.specs.Reached.{flag}
 use Rattle.fancy_analysis.proofs.SearchSteps.{least_found, none_further, none_reached}
 use Rattle.fancy_analysis.proofs.cycle_search.least_into_cycle.Goals as goal
 
-pub loop-number-preserved-then-not-index : goal.loop-number-preserved-then-not-index
-loop-number-preserved-then-not-index c =
+pub loop-number-preserved-then-not-is_set : goal.loop-number-preserved-then-not-is_set
+loop-number-preserved-then-not-is_set c =
     let flags = c.in_ok-reached.reached.items in
     let n = c.loop-number.number in
     let at : flag flags n ≡ false =
-    sym (c.index.ensures ∙ get_or_default flags n c.index.result.now false (omega (arith, c.loop-number-test.true, c.len-number-end.ensures, c.in_ok-reached.reached.ok.0)))
-    ∙ c.if-not-index.true in
+    ap (λ l. flag l n) (sym c.deref.ensures.value) ∙ sym c.is_set.ensures ∙ c.if-not-is_set.true in
     record {
       searching = c.loop-number.invariant.searching;
       idle = c.loop-number.invariant.idle;
@@ -20,7 +18,7 @@ loop-number-preserved-then-not-index c =
 
 pub loop-number-preserved : goal.loop-number-preserved
 loop-number-preserved c =
-    let t = c.in_ok-leads.ensures in
+    let t = c.in_ok-finds_cycle.ensures in
     record {
       searching = t.searching c.if-branch.false;
       idle = t.idle c.if-branch.false;
@@ -32,9 +30,8 @@ returns-then-branch c =
     let flags = c.in_ok-reached.reached.items in
     let n = c.loop-number.number in
     let at : flag flags n ≡ true =
-    sym (c.index.ensures ∙ get_or_default flags n c.index.result.now false (omega (arith, c.loop-number-test.true, c.len-number-end.ensures, c.in_ok-reached.reached.ok.0)))
-    ∙ c.if-not-index.false in
-    least_found c.args.links.now flags n c.in_ok-reached.ensures at (c.in_ok-leads.ensures.cycle c.if-branch.true) c.loop-number.invariant.none
+    ap (λ l. flag l n) (sym c.deref.ensures.value) ∙ sym c.is_set.ensures ∙ c.if-not-is_set.false in
+    least_found c.args.links.now flags n c.in_ok-reached.ensures at (c.in_ok-finds_cycle.ensures.cycle c.if-branch.true) c.loop-number.invariant.none
 
 pub returns : goal.returns
 returns c = none_reached c.args.links.now c.in_ok-reached.reached.items c.loop-number.number c.in_ok-reached.ensures

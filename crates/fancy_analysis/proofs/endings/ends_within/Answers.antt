@@ -1,15 +1,18 @@
 use Rattle.std.proofs.Common.{◌≡◌, ◌≤◌, ◌<◌, true, false, length, replicate, slice_index_or, arith, ap, ◌∙◌, sym, subst}
-use Rattle.std.proofs.lemmas.Bool.{eq-eqb, ne_eqb}
+use Rattle.std.specs.Bool.{beq}
+use Rattle.std.specs.Cmp.{booleans_Decides}
+use Rattle.std.specs.Cmp.Lexicographic.{pointwise}
+use Rattle.std.proofs.lemmas.Slice.Eq.{slice_eq-Decides}
 use Rattle.std.proofs.lemmas.List.{get_or_default, length-replicate}
 use Rattle.fancy_meaning.specs.Tree.{Tree}
-use Rattle.fancy_analysis.specs.Endings.{IsRootOf, ending_rounds, flag_count, next_ends, same_count, set_count}
-use Rattle.fancy_expr.proofs.Listed.{false_true}
-use Rattle.fancy_analysis.proofs.EndingRules.{NextFlags, has_flags, grows_next, sound_next, sound_first, first_complete, count_grows, same_flags, all_set, no_flag, next_is, next_of_root}
+use Rattle.fancy_analysis.specs.Endings.{IsRootOf, ending_rounds, flag_count, next_ends}
+use Rattle.fancy_expr.proofs.Listed.{false_true, true_false}
+use Rattle.fancy_analysis.proofs.EndingRules.{NextFlags, has_flags, grows_next, sound_next, sound_first, first_complete, count_grows, same_flags, set_count, all_set, no_flag, next_is, next_of_root}
 use Rattle.fancy_analysis.proofs.LimitRounds.{Counts, counts_all, counts_first, counts_more, counts_over, counts_same}
 use Rattle.fancy_analysis.proofs.endings.ends_within.Goals as goal
 
-pub returns-then-count_set : goal.returns-then-count_set
-returns-then-count_set c =
+pub returns-then-eq : goal.returns-then-eq
+returns-then-eq c =
     let root = c.args.root.now in
     let n = flag_count root in
     let flags = c.loop-round.flags.items in
@@ -18,12 +21,7 @@ returns-then-count_set c =
     let long : length next ≡ length flags = c.in_ok-next.ensures.length ∙ ap length held in
     let some : 0 < length flags = omega (arith, c.loop-round.invariant.long) in
     let first : c.index.result.now ≡ slice_index_or flags 0 false = c.index.ensures ∙ get_or_default flags 0 c.index.result.now false some in
-    let counted : set_count next ≡ set_count flags =
-    ap set_count (sym c.deref-in-loop-round.ensures.value)
-    ∙ sym c.count_set.ensures
-    ∙ c.if-count_set.true
-    ∙ c.count_set-in-loop-round.ensures
-    ∙ ap set_count c.deref-in-loop-round-2.ensures.value in
+    let same : next ≡ flags = (slice_eq-Decides booleans_Decides next flags _ c.eq.ensures).0 c.if-eq.true in
     let made = ap length c.in_ok-flags.ensures ∙ length-replicate c.max.result false ∙ c.max.ensures in
     let lt : c.loop-round.round < n = omega (arith, c.loop-round-test.true, c.len-round-end.ensures, made, c.in_ok-flags.flags.ok.0) in
     let is_next : (whole : Tree) (w : IsRootOf whole root) → NextFlags whole flags next =
@@ -32,15 +30,14 @@ returns-then-count_set c =
       ends = λ whole w.
           let is = is_next whole w in
           let has = has_flags whole root w flags c.loop-round.invariant.long in
-          let sound = c.loop-round.invariant.sound whole w in
-          let same : next ≡ flags = same_flags flags next long (grows_next whole flags next is) counted in (
+          let sound = c.loop-round.invariant.sound whole w in (
             λ set. sound_first whole flags sound (sym first ∙ set),
             λ ends. first ∙ first_complete whole w.first flags next has sound is same ends,
           );
       rounds = λ whole w.
-          let total = counts_same same_count (next_ends whole) (ending_rounds whole n) c.loop-round.round n flags next lt
+          let total = counts_same (pointwise beq) (next_ends whole) (ending_rounds whole n) c.loop-round.round n flags next lt
           (next_is whole flags next long (is_next whole w)) (c.loop-round.invariant.counts whole w)
-          (eq-eqb (set_count next) (set_count flags) counted) in
+          (sym c.eq.ensures ∙ c.if-eq.true) in
           omega (arith, total, c.loop-round.invariant.few);
     }
 
@@ -54,15 +51,12 @@ returns-then-round-most c =
     let long : length next ≡ length flags = c.in_ok-next.ensures.length ∙ ap length held in
     let made = ap length c.in_ok-flags.ensures ∙ length-replicate c.max.result false ∙ c.max.ensures in
     let lt : c.loop-round.round < n = omega (arith, c.loop-round-test.true, c.len-round-end.ensures, made, c.in_ok-flags.flags.ok.0) in
-    let differ : set_count next ≡ set_count flags → ⊥ =
-    λ e. c.if-count_set.false (c.count_set.ensures ∙ ap set_count c.deref-in-loop-round.ensures.value ∙ e
-    ∙ sym (c.count_set-in-loop-round.ensures ∙ ap set_count c.deref-in-loop-round-2.ensures.value)) in
     record {
       ends = λ whole w. tt;
       rounds = λ whole w.
           let is = next_of_root whole root w flags c.deref.result.now next (c.in_ok-next.ensures.flags _ w.sized) held in
-          let more = counts_over same_count (next_ends whole) (ending_rounds whole n) c.loop-round.round n flags next lt
-          (next_is whole flags next long is) (c.loop-round.invariant.counts whole w) (ne_eqb (set_count next) (set_count flags) differ) in
+          let more = counts_over (pointwise beq) (next_ends whole) (ending_rounds whole n) c.loop-round.round n flags next lt
+          (next_is whole flags next long is) (c.loop-round.invariant.counts whole w) (sym c.eq.ensures ∙ c.if-eq.false) in
           omega (arith, more, c.if-round-most.true);
     }
 
@@ -76,8 +70,8 @@ loop-round-init c =
       few = omega arith;
       is_set = λ whole w. omega arith;
       sound = λ whole w g set. absurd (false_true (sym (ap (λ l. slice_index_or l g false) none ∙ no_flag n g) ∙ set));
-      counts = λ whole w. subst (λ l. Counts same_count (next_ends whole) (ending_rounds whole n) l 0 n) (sym none)
-          (counts_first same_count (next_ends whole) (replicate n false) n);
+      counts = λ whole w. subst (λ l. Counts (pointwise beq) (next_ends whole) (ending_rounds whole n) l 0 n) (sym none)
+          (counts_first (pointwise beq) (next_ends whole) (replicate n false) n);
     }
 
 pub loop-round-preserved : goal.loop-round-preserved
@@ -90,22 +84,21 @@ loop-round-preserved c =
     let long : length next ≡ length flags = c.in_ok-next.ensures.length ∙ ap length held in
     let made = ap length c.in_ok-flags.ensures ∙ length-replicate c.max.result false ∙ c.max.ensures in
     let lt : c.loop-round.round < n = omega (arith, c.loop-round-test.true, c.len-round-end.ensures, made, c.in_ok-flags.flags.ok.0) in
-    let differ : set_count next ≡ set_count flags → ⊥ =
-    λ e. c.if-count_set.false (c.count_set.ensures ∙ ap set_count c.deref-in-loop-round.ensures.value ∙ e
-    ∙ sym (c.count_set-in-loop-round.ensures ∙ ap set_count c.deref-in-loop-round-2.ensures.value)) in
     let is_next : (whole : Tree) (w : IsRootOf whole root) → NextFlags whole flags next =
     λ whole w. next_of_root whole root w flags c.deref.result.now next (c.in_ok-next.ensures.flags _ w.sized) held in
     record {
       long = long ∙ c.loop-round.invariant.long;
       few = omega (arith, c.if-round-most.false);
       is_set = λ whole w.
-          let more : set_count flags ≤ set_count next = count_grows flags next long (grows_next whole flags next (is_next whole w)) in
-          omega (arith, more, differ, c.loop-round.invariant.is_set whole w);
+          let grows = grows_next whole flags next (is_next whole w) in
+          let differ : set_count next ≡ set_count flags → ⊥ =
+          λ e. true_false (sym ((slice_eq-Decides booleans_Decides next flags _ c.eq.ensures).1 (same_flags flags next long grows e)) ∙ c.if-eq.false) in
+          omega (arith, count_grows flags next long grows, differ, c.loop-round.invariant.is_set whole w);
       sound = λ whole w.
           sound_next whole w.first flags next (has_flags whole root w flags c.loop-round.invariant.long) (c.loop-round.invariant.sound whole w) (is_next whole w);
       counts = λ whole w.
-          counts_more same_count (next_ends whole) (ending_rounds whole n) c.loop-round.round n flags next lt
-          (next_is whole flags next long (is_next whole w)) (c.loop-round.invariant.counts whole w) (ne_eqb (set_count next) (set_count flags) differ);
+          counts_more (pointwise beq) (next_ends whole) (ending_rounds whole n) c.loop-round.round n flags next lt
+          (next_is whole flags next long (is_next whole w)) (c.loop-round.invariant.counts whole w) (sym c.eq.ensures ∙ c.if-eq.false);
     }
 
 pub returns : goal.returns
@@ -125,6 +118,6 @@ returns c =
             λ _. first ∙ set,
           );
       rounds = λ whole w.
-          let total = counts_all same_count (next_ends whole) (ending_rounds whole n) c.loop-round.round n flags end (c.loop-round.invariant.counts whole w) in
+          let total = counts_all (pointwise beq) (next_ends whole) (ending_rounds whole n) c.loop-round.round n flags end (c.loop-round.invariant.counts whole w) in
           omega (arith, total, c.loop-round.invariant.few);
     }

@@ -9,7 +9,8 @@ use Rattle.fancy_info.specs.Sized.{size_of}
 use Rattle.fancy_analysis.specs.AnalysisLimit.{analysis_rounds, whole_of}
 use Rattle.fancy_analysis.specs.Endings.{ending_rounds}
 use Rattle.fancy_analysis.specs.Rounds.{AreRounds, size_rounds}
-use Rattle.fancy_analysis.proofs.LimitRounds.{at_least, more_rounds, ok_weaker, with_calls, with_names}
+use Rattle.std.proofs.lemmas.Result.{IfOk-weaker}
+use Rattle.fancy_analysis.proofs.LimitRounds.{at_least, more_rounds, with_calls, with_names}
 use Rattle.fancy_analysis.proofs.limit.are_few_rounds.Goals as goal
 
 pub returns-then-not-has_node : goal.returns-then-not-has_node
@@ -48,9 +49,9 @@ returns-else-not-has_node c =
     let endings : ℕ = ending_rounds whole (suc (group_count whole)) in
     let rounds = more_rounds (analysis_rounds e) (size_rounds whole) endings most count (with_calls e c.requires.named calls) r.count r.few in
     record {
-      few = ok_weaker c.are_few_endings.result (λ few. IsTrue few → endings ≤ most - count) (λ few. IsTrue few → analysis_rounds e ≤ most)
+      few = IfOk-weaker c.are_few_endings.result (λ few. IsTrue few → endings ≤ most - count) (λ few. IsTrue few → analysis_rounds e ≤ most)
           (λ few h t. rounds.0 (h t)) c.are_few_endings.ensures.few;
-      over = ok_weaker c.are_few_endings.result (λ few. IsFalse few → most - count < endings) (λ few. IsFalse few → most < analysis_rounds e)
+      over = IfOk-weaker c.are_few_endings.result (λ few. IsFalse few → most - count < endings) (λ few. IsFalse few → most < analysis_rounds e)
           (λ few h f. rounds.1 (h f)) c.are_few_endings.ensures.over;
     }
 

@@ -1,7 +1,8 @@
 use Rattle.std.proofs.Common.{◌≡◌, ◌≤◌, ◌<◌, ◌/◌, length, IsTrue, IsFalse, arith, ◌∙◌, sym, subst}
 use Rattle.fancy_expr.specs.Exprs.{exprs}
 use Rattle.fancy_analysis.specs.AnalysisLimit.{analysis_nodes, analysis_rounds}
-use Rattle.fancy_analysis.proofs.LimitRounds.{most_rounds, ok_weaker, times_none, with_none, count_below, times_over, times_within}
+use Rattle.std.proofs.lemmas.Result.{IfOk-weaker}
+use Rattle.fancy_analysis.proofs.LimitRounds.{most_rounds, times_none, with_none, count_below, times_over, times_within}
 use Rattle.fancy_analysis.proofs.limit.is_analysis_within.Goals as goal
 
 pub returns-then-not-has_names : goal.returns-then-not-has_names
@@ -29,11 +30,11 @@ returns c =
     let n = length (exprs e) in
     let most : c.rounds_within-most.result ≡ c.args.limit / n = c.rounds_within-most.ensures in
     record {
-      within = ok_weaker c.are_few_rounds.result (λ few. IsTrue few → analysis_rounds e ≤ c.rounds_within-most.result)
+      within = IfOk-weaker c.are_few_rounds.result (λ few. IsTrue few → analysis_rounds e ≤ c.rounds_within-most.result)
           (λ few. IsTrue few → analysis_nodes c.args.tree.now ≤ c.args.limit)
           (λ few h t. times_within c.args.limit n (analysis_rounds e) (omega arith) (subst (λ k. analysis_rounds e ≤ k) most (h t)))
           c.are_few_rounds.ensures.few;
-      over = ok_weaker c.are_few_rounds.result (λ few. IsFalse few → c.rounds_within-most.result < analysis_rounds e)
+      over = IfOk-weaker c.are_few_rounds.result (λ few. IsFalse few → c.rounds_within-most.result < analysis_rounds e)
           (λ few. IsFalse few → c.args.limit < analysis_nodes c.args.tree.now)
           (λ few h f. times_over c.args.limit n (analysis_rounds e) (omega arith) (subst (λ k. k < analysis_rounds e) most (h f)))
           c.are_few_rounds.ensures.over;

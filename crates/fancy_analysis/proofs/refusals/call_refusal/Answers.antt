@@ -10,12 +10,6 @@ use Rattle.fancy_expr.proofs.Listed.{true_false, any-nodes}
 use Rattle.fancy_analysis.proofs.RefusalNodes.{late_refused, left_refused, without_calls, that_end, never_refused}
 use Rattle.fancy_analysis.proofs.refusals.call_refusal.Goals as goal
 
-pub returns-then-not-has_node : goal.returns-then-not-has_node
-returns-then-not-has_node c = λ options quiet w.
-    let t = c.args.tree.now in
-    let none : list_any is_call (nodes (tree_of t.expr)) ≡ false = sym (any-nodes is_call t.expr) ∙ sym c.has_node.ensures ∙ c.if-not-has_node.true in
-    without_calls (parsed_of t) options c.requires.0.groups quiet none
-
 pub returns-then-reads_after_call : goal.returns-then-reads_after_call
 returns-then-reads_after_call c = λ options quiet w.
     let p = parsed_of c.args.tree.now in
@@ -29,6 +23,19 @@ returns-in-Some c = λ options quiet w.
     left_refused p options (string_bytes c.in-Some.text)
     (subst (λ o. MatchOption o ((g : ℕ) → ¬ IsLeftRecursive whole g)
     (λ text. IsDescriptionOfLeast whole (names_of t.named_groups.entries) (string_bytes text))) c.in-Some.is (c.in_ok-text.ensures whole w.root.tree w.root.sized))
+
+pub returns-then-not-has_node : goal.returns-then-not-has_node
+returns-then-not-has_node c = λ options quiet w.
+    let t = c.args.tree.now in
+    let p = parsed_of t in
+    let a = analysis_of p.tree options in
+    let no_late = (c.reads_after_call.ensures a.tree w.root.tree w.root.sized).1 c.if-reads_after_call.false in
+    let no_left : (g : ℕ) → ¬ IsLeftRecursive a.tree g =
+    subst (λ o. MatchOption o ((g : ℕ) → ¬ IsLeftRecursive a.tree g)
+    (λ text. IsDescriptionOfLeast a.tree (names_of t.named_groups.entries) (string_bytes text)))
+    c.in_default.is (c.in_ok-text.ensures a.tree w.root.tree w.root.sized) in
+    let none : list_any is_call (nodes (tree_of t.expr)) ≡ false = sym (any-nodes is_call t.expr) ∙ sym c.has_node.ensures ∙ c.if-not-has_node.true in
+    without_calls p options c.requires.0.groups quiet no_late no_left none
 
 pub returns-then-branch : goal.returns-then-branch
 returns-then-branch c = λ options quiet w.

@@ -6,13 +6,14 @@ use Rattle.fancy_meaning.specs.Sizes.{next_round, after_rounds, unknown}
 use Rattle.fancy_expr.specs.Views.{tree_of}
 use Rattle.fancy_info.specs.Sized.{size_of}
 use Rattle.fancy_expr.proofs.Numbered.{count-numbered}
-use Rattle.fancy_analysis.specs.Rounds.{same_sizes, size_rounds}
+use Rattle.std.specs.Cmp.Derive.Mapped.{pointwise-map}
+use Rattle.fancy_analysis.specs.Rounds.{same_size, same_sizes, size_rounds}
 use Rattle.fancy_analysis.proofs.LimitRounds.{Counts, counts_all, counts_first, counts_more, counts_over, counts_same}
 use Rattle.fancy_analysis.proofs.RoundSizes.{same_known, settled, last_round}
 use Rattle.fancy_analysis.proofs.rounds.sizes_by_rounds.Goals as goal
 
-pub returns-then-are_same : goal.returns-then-are_same
-returns-then-are_same c =
+pub returns-then-eq : goal.returns-then-eq
+returns-then-eq c =
     let t = tree_of c.args.tree.now.expr in
     let whole = numbered_within plain.NoLook c.args.first t in
     let i = c.loop-round.round in
@@ -21,10 +22,7 @@ returns-then-are_same c =
     let is : next ≡ next_round whole (after_rounds whole i) =
     c.in_ok-next.ensures ∙ ap (next_round whole) (ap (map size_of) c.deref.ensures.value ∙ before) in
     let same : same_sizes next (after_rounds whole i) ≡ true =
-    ap (λ l. same_sizes (map size_of l) (after_rounds whole i)) (sym c.deref-in-loop-round.ensures.value)
-    ∙ ap (same_sizes (map size_of c.deref-in-loop-round.result.now)) (sym (ap (map size_of) c.deref-in-loop-round-2.ensures.value ∙ before))
-    ∙ sym c.are_same.ensures
-    ∙ c.if-are_same.true in
+    ap (same_sizes next) (sym before) ∙ pointwise-map size_of same_size c.in_ok-next.next.items c.loop-round.known.items ∙ sym c.eq.ensures ∙ c.if-eq.true in
     record {
       known = before
           ∙ settled whole i (omega (arith, c.requires.groups, count-numbered plain.NoLook c.args.first t))
@@ -43,10 +41,7 @@ returns-then-round-most c =
     let is : next ≡ next_round whole (after_rounds whole i) =
     c.in_ok-next.ensures ∙ ap (next_round whole) (ap (map size_of) c.deref.ensures.value ∙ before) in
     let differ : same_sizes next (after_rounds whole i) ≡ false =
-    ap (λ l. same_sizes (map size_of l) (after_rounds whole i)) (sym c.deref-in-loop-round.ensures.value)
-    ∙ ap (same_sizes (map size_of c.deref-in-loop-round.result.now)) (sym (ap (map size_of) c.deref-in-loop-round-2.ensures.value ∙ before))
-    ∙ sym c.are_same.ensures
-    ∙ c.if-are_same.false in
+    ap (same_sizes next) (sym before) ∙ pointwise-map size_of same_size c.in_ok-next.next.items c.loop-round.known.items ∙ sym c.eq.ensures ∙ c.if-eq.false in
     let more = counts_over same_sizes (next_round whole) (size_rounds whole) i c.args.tree.now.total_groups (after_rounds whole i) next
     c.loop-round-test.true is c.loop-round.invariant.counts differ in
     omega (arith, more, c.if-round-most.true)
@@ -75,10 +70,8 @@ loop-round-preserved c =
     let is : next ≡ after_rounds whole (i + 1) =
     c.in_ok-next.ensures ∙ ap (next_round whole) (ap (map size_of) c.deref.ensures.value ∙ before) ∙ sym up in
     let differ : same_sizes (after_rounds whole (i + 1)) (after_rounds whole i) ≡ false =
-    ap (λ l. same_sizes l (after_rounds whole i)) (sym (ap (map size_of) c.deref-in-loop-round.ensures.value ∙ is))
-    ∙ ap (same_sizes (map size_of c.deref-in-loop-round.result.now)) (sym (ap (map size_of) c.deref-in-loop-round-2.ensures.value ∙ before))
-    ∙ sym c.are_same.ensures
-    ∙ c.if-are_same.false in
+    ap (λ l. same_sizes l (after_rounds whole i)) (sym is) ∙ ap (same_sizes (map size_of c.in_ok-next.next.items)) (sym before)
+    ∙ pointwise-map size_of same_size c.in_ok-next.next.items c.loop-round.known.items ∙ sym c.eq.ensures ∙ c.if-eq.false in
     record {
       known = is;
       counts = counts_more same_sizes (next_round whole) (size_rounds whole) i c.args.tree.now.total_groups (after_rounds whole i) (after_rounds whole (i + 1))

@@ -1,18 +1,27 @@
-use Rattle.std.proofs.Common.{◌≡◌, ◌++◌, ◌∷◌, [], true, false, slice_index_or, sym, ap, ◌∙◌, subst, get_or-set_same}
+use Rattle.std.proofs.Common.{◌≡◌, ◌<◌, ◌++◌, ◌∷◌, [], true, false, length, slice_index_or, refl, sym, ap, ◌∙◌, subst, arith, get_or-set_same}
 use Rattle.fancy_expr.proofs.Listed.{false_true, true_false}
 use Rattle.fancy_analysis.specs.Reached.{IsLast, IsState}
-use Rattle.fancy_analysis.proofs.SearchSteps.{anew, entered_first, moved, none_from}
+use Rattle.fancy_analysis.proofs.SearchSteps.{anew, entered_first, moved, none_from, undone_inside}
 use Rattle.fancy_analysis.proofs.cycle_search.CycleSearch.finds_cycle.Goals as goal
+
+pub returns-then-is_done : goal.returns-then-is_done
+returns-then-is_done c = record {
+  cycle = λ t. absurd (false_true t);
+  none = λ f. c.requires.searching.none c.args.start (sym c.is_done.ensures ∙ c.if-is_done.true);
+  searching = λ f. c.requires.searching;
+  idle = λ f. c.requires.idle;
+}
 
 pub loop-number-init : goal.loop-number-init
 loop-number-init c =
     let old = c.args.self.now in
-    let d = c.in_ok-enter.ensures in
+    let start = c.args.start in
     let s = subst (IsState c.args.links.now 0 old.ways.items old.seen.items old.done.items) c.requires.idle c.requires.searching in
+    let within : start < length old.seen.items = omega (arith, s.dones, undone_inside old.done.items start (sym c.is_done.ensures ∙ c.if-is_done.false)) in
     record {
-      searching = moved c.args.links.now c.args.start d.ways d.seen d.done (d.path ∙ ap (λ l. l ++ c.args.start ∷ []) c.requires.idle)
-          (entered_first c.args.links.now c.args.start old.ways.items old.seen.items old.done.items s c.requires.within);
-      seen = ap (λ l. slice_index_or l c.args.start false) d.seen ∙ get_or-set_same old.seen.items c.args.start true false c.requires.within;
+      searching = moved c.args.links.now start refl c.set.ensures refl (c.in_ok-push.ensures.items ∙ ap (λ l. l ++ start ∷ []) c.requires.idle)
+          (entered_first c.args.links.now start old.ways.items old.seen.items old.done.items s within);
+      seen = ap (λ l. slice_index_or l start false) c.set.ensures ∙ get_or-set_same old.seen.items start true false within;
     }
 
 pub loop-number-preserved : goal.loop-number-preserved

@@ -1,14 +1,8 @@
-use Rattle.std.proofs.Common.{◌<◌, All, false, length, sym, ap, ◌∙◌, subst}
+use Rattle.std.proofs.Common.{false, length, sym, ap, ◌∙◌, subst}
 use Rattle.std.proofs.lemmas.List.{length-replicate}
-use Rattle.std.proofs.lemmas.List.Elements.{All-filter}
-use Rattle.fancy_analysis.specs.Reached.{IsState, AreWays}
+use Rattle.fancy_analysis.specs.Reached.{IsState}
 use Rattle.fancy_analysis.proofs.SearchSteps.{first_state, room_all}
 use Rattle.fancy_analysis.proofs.cycle_search.CycleSearch.of.Goals as goal
-
-pub ways-requires : goal.ways-requires
-ways-requires c =
-    subst (All (λ link. link.from < c.args.numbers)) (sym (c.deref.ensures.value ∙ c.in_ok-at_once.ensures))
-    (All-filter (λ link. link.at_once) (λ link. link.from < c.args.numbers) c.args.links.now c.requires.room)
 
 pub returns-clause-searching : goal.returns-clause-searching
 returns-clause-searching c =
@@ -18,4 +12,4 @@ returns-clause-searching c =
     let long = ap length c.in_ok-seen.ensures ∙ length-replicate n false in
     subst (IsState links 0 c.in_ok-ways.ways.items seen c.in_ok-done.done.items) (sym c.new.ensures.items)
     (first_state links c.in_ok-ways.ways.items seen c.in_ok-done.done.items n (room_all links seen n c.requires.some long c.requires.room) long
-    (subst (λ l. AreWays l c.in_ok-ways.ways.items) (c.deref.ensures.value ∙ c.in_ok-at_once.ensures) c.in_ok-ways.ensures.ways) c.in_ok-seen.ensures c.in_ok-done.ensures)
+    c.in_ok-ways.ensures.ways c.in_ok-seen.ensures c.in_ok-done.ensures)

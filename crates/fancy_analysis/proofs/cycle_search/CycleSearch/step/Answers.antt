@@ -1,25 +1,86 @@
-use Rattle.std.proofs.Common.{◌<◌, false, slice_index_or, sym, ap, ◌∙◌, subst}
-use Rattle.fancy_expr.proofs.Listed.{false_true}
+use Rattle.std.proofs.Common.{◌<◌, ◌++◌, ◌∷◌, [], false, length, slice_index_or, Contains, refl, sym, ap, ◌∙◌, subst, arith}
+use Rattle.std.proofs.lemmas.List.Elements.{Contains-push}
+use Rattle.fancy_expr.proofs.Listed.{false_true, true_false}
 use Rattle.fancy_analysis.specs.Reached.{IsState, left_of}
-use Rattle.fancy_analysis.proofs.SearchSteps.{left, left_same, less_path, moved}
+use Rattle.fancy_analysis.proofs.SearchSteps.{listed_at, listed_within, dropped, entered_on, found, left, left_same, less_path, less_seen, less_ways, moved, stays_set, undone_inside}
 use Rattle.fancy_analysis.proofs.cycle_search.CycleSearch.step.Goals as goal
 
-pub returns-in-Some : goal.returns-in-Some
-returns-in-Some c = λ links start s path. c.follow.ensures links start s path c.in-Some.ensures
-
-pub returns-in-None : goal.returns-in-None
-returns-in-None c = λ links start s path.
+pub returns-in_default : goal.returns-in_default
+returns-in_default c = λ links start s path.
     let old = c.args.self.now in
     let n = c.args.number in
     let here = subst (IsState links start old.ways.items old.seen.items old.done.items) path.is s in
-    let d = c.leave.ensures in
-    let back = d.path path.before path.is in
+    let back = c.drop_last.ensures path.before n path.is in
     record {
       cycle = λ t. absurd (false_true t);
-      goes_on = λ f. moved links start d.ways d.seen d.done back
-          (left links start old.ways.items old.seen.items old.done.items path.before n n here c.in-None.ensures);
-      less = λ f. left_same old.ways.items old.seen.items old.path.items d.ways d.seen back
+      goes_on = λ f. moved links start refl refl c.set.ensures back
+          (left links start old.ways.items old.seen.items old.done.items path.before n n here c.in_default.ensures);
+      less = λ f. left_same {ways = old.ways.items} {seen = old.seen.items} old.ways.items old.seen.items old.path.items refl refl back
           (subst (λ l. left_of old.ways.items old.seen.items path.before < left_of old.ways.items old.seen.items l) (sym path.is)
           (less_path old.ways.items old.seen.items path.before n));
-      seen = λ m at. ap (λ l. slice_index_or l m false) d.seen ∙ at;
+      seen = λ m at. at;
+    }
+
+pub index_mut-requires : goal.index_mut-requires
+index_mut-requires c =
+    let old = c.args.self.now in
+    let way = c.in-Some.ensures in
+    let lt = listed_within old.ways.items c.args.number c.in-Some.to (subst (λ l. Contains l c.in-Some.to) (sym way.is) (Contains-push way.before c.in-Some.to)) in
+    omega (arith, lt, old.ways.ok.0)
+
+pub returns-then-is_done : goal.returns-then-is_done
+returns-then-is_done c = λ links start s path.
+    let old = c.args.self.now in
+    let n = c.args.number in
+    let to = c.in-Some.to in
+    let way = c.in-Some.ensures in
+    let list = c.drop_last-then-is_done.new.list in
+    let here = subst (IsState links start old.ways.items old.seen.items old.done.items) path.is s in
+    let lt = listed_within old.ways.items n to (subst (λ l. Contains l to) (sym way.is) (Contains-push way.before to)) in
+    let at = listed_at old.ways.items n c.index_mut.result.now lt c.index_mut.ensures.value in
+    let is = way.is ∙ ap (λ l. l ++ to ∷ []) (sym (c.drop_last-then-is_done.ensures way.before to (sym at ∙ way.is))) in
+    record {
+      cycle = λ t. absurd (false_true t);
+      goes_on = λ f. moved links start refl refl refl path.is
+          (dropped links start old.ways.items old.seen.items old.done.items path.before n to here list lt is (sym c.is_done.ensures ∙ c.if-is_done.true));
+      less = λ f. less_ways old.ways.items old.seen.items old.path.items n to list lt is;
+      seen = λ m at. at;
+    }
+
+pub returns-then-is_set : goal.returns-then-is_set
+returns-then-is_set c = λ links start s path.
+    let old = c.args.self.now in
+    let n = c.args.number in
+    let to = c.in-Some.to in
+    let way = c.in-Some.ensures in
+    let here = subst (IsState links start old.ways.items old.seen.items old.done.items) path.is s in
+    let link = s.only n to (subst (λ l. Contains l to) (sym way.is) (Contains-push way.before to)) in
+    record {
+      cycle = λ t. found links start old.ways.items old.seen.items old.done.items path.before n to here link
+          (sym (c.is_set.ensures ∙ ap (λ l. slice_index_or l to false) c.deref.ensures.value) ∙ c.if-is_set.true)
+          (sym c.is_done.ensures ∙ c.if-is_done.false);
+      goes_on = λ f. absurd (true_false f);
+      less = λ f. absurd (true_false f);
+      seen = λ m at. at;
+    }
+
+pub returns : goal.returns
+returns c = λ links start s path.
+    let old = c.args.self.now in
+    let n = c.args.number in
+    let to = c.in-Some.to in
+    let way = c.in-Some.ensures in
+    let here = subst (IsState links start old.ways.items old.seen.items old.done.items) path.is s in
+    let link = s.only n to (subst (λ l. Contains l to) (sym way.is) (Contains-push way.before to)) in
+    let within : to < length old.seen.items = omega (arith, s.dones, undone_inside old.done.items to (sym c.is_done.ensures ∙ c.if-is_done.false)) in
+    let seen = c.set-2.ensures in
+    let on = c.in_ok-push.ensures.items in
+    record {
+      cycle = λ t. absurd (false_true t);
+      goes_on = λ f. moved links start refl seen refl (on ∙ ap (λ l. l ++ to ∷ []) path.is)
+          (entered_on links start old.ways.items old.seen.items old.done.items path.before n to here link within);
+      less = λ f. left_same {ways = old.ways.items} old.ways.items old.seen.items old.path.items refl seen on
+          (less_seen old.ways.items old.seen.items old.path.items to within
+          (sym (c.is_set.ensures ∙ ap (λ l. slice_index_or l to false) c.deref.ensures.value) ∙ c.if-is_set.false));
+      seen = λ m at. ap (λ l. slice_index_or l m false) seen ∙ stays_set old.seen.items to m within at;
     }
