@@ -4,13 +4,13 @@ use Rattle.fancy_meaning.specs.Tree.{Tree}
 use Rattle.fancy_tokens.specs.declared.error.Fault.{Fault}
 use Rattle.fancy_tokens.specs.Tokens.{Placed}
 use Rattle.fancy_pattern.specs.Grammar.{Names, SpellsAlternatives}
-use Rattle.fancy_pattern.specs.Faults.{MisfitAt, IsPlace, at_token, at_name, CanBegin, IsFaultAt, stray, early}
+use Rattle.fancy_pattern.specs.Faults.{misfit, IsPlace, at_token, at_name, CanBegin, IsFaultAt, stray, early}
 use Rattle.fancy_pattern.specs.Stuck.{Alike, SameFirst, both_ended, same_token, Stuck, anything, is_end}
 use Rattle.fancy_pattern.proofs.Splits as splits
 use Rattle.fancy_pattern.proofs.OneSpelling.{one_alternatives}
 use Rattle.fancy_pattern.proofs.Moved.{Meets, by_same, by_start, follows_of, alike_append, alike_end, alternatives_moved}
 
-at_end : (names : Names) (f : Fault) → IsPlace names f [] → f.left ≡ 0
+at_end : (names : Names) (f : Fault) → IsPlace names f [] → f ≡ misfit []
 at_end names f (at_token is) = is
 at_end names f (at_name r next none is) = absurd (cc)
 
@@ -50,7 +50,7 @@ fault_there names ts f s = by_rest s.rest refl
         (subst (λ l. Alike s.rest [] ts l) (append-nil before ∙ sym all) (alike_split ts before s.rest [] split)) h)
 
 -- tokens are left where all was read
-pub fault_left : (names : Names) (ts rest : List Placed) (t : Tree) (f : Fault) → SpellsAlternatives names ts rest t → 0 < length rest → MisfitAt f rest →
+pub fault_left : (names : Names) (ts rest : List Placed) (t : Tree) (f : Fault) → SpellsAlternatives names ts rest t → 0 < length rest → f ≡ misfit rest →
     IsFaultAt names ts f
 fault_left names ts [] t f s some is = absurd (omega (arith, some))
 fault_left names ts (p ∷ after) t f s some is =

@@ -8,7 +8,7 @@ use Rattle.std.specs.BTreeMap.{BTreeMap, get_by_text}
 use Rattle.std.specs.Option.{option_map_or}
 use Rattle.std.specs.Str.{bytes_eq}
 use Rattle.std.specs.declared.alloc.Global.{Global}
-use Rattle.fancy_tokens.specs.declared.kept.Placed.{Placed as Code}
+use Rattle.fancy_tokens.specs.declared.tokens.Placed.{Placed as Code}
 use Rattle.fancy_tokens.specs.Tokens.{Opening, Around, Group, AbsentBar, If, IfPattern, IfLook, Token, Node, Refer, FlagsItem, Open, Bar, Close, Quantified, ClassOpen, ClassText, ClassClose, Broken, Placed}
 use Rattle.fancy_pattern.specs.Spelling.{has_name, opens_named}
 use Rattle.fancy_pattern.specs.Naming.{named_opening, named_of, named_in, numbers_of, numbers_in}

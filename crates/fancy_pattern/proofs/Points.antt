@@ -9,7 +9,7 @@ use Rattle.fancy_expr.specs.declared.expr.Expr.{Expr}
 use Rattle.fancy_expr.specs.Views.{tree_of}
 use Rattle.fancy_pattern.specs.declared.failure.Failure.{Failure}
 use Rattle.fancy_pattern.specs.declared.reader.Reader.{Reader}
-use Rattle.fancy_tokens.specs.declared.kept.Placed.{Placed as Code}
+use Rattle.fancy_tokens.specs.declared.tokens.Placed.{Placed as Code}
 use Rattle.fancy_tokens.specs.declared.tokens.Quantifier.{Quantifier}
 use Rattle.fancy_tokens.specs.declared.tokens.Suffix.{Suffix}
 use Rattle.fancy_tokens.specs.declared.tokens.Enclosing.{Enclosing}

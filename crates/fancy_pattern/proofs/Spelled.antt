@@ -7,7 +7,7 @@ use Rattle.fancy_expr.specs.Views.{tree_of}
 use Rattle.fancy_tokens.specs.declared.flags.Flags.{Flags}
 use Rattle.fancy_pattern.specs.declared.options.ParseOptions.{ParseOptions}
 use Rattle.fancy_pattern.specs.declared.reader.Reader.{Reader}
-use Rattle.fancy_tokens.specs.declared.kept.Placed.{Placed as Code}
+use Rattle.fancy_tokens.specs.declared.tokens.Placed.{Placed as Code}
 use Rattle.fancy_pattern.specs.Texts.{Text}
 use Rattle.fancy_tokens.specs.Tokens.{Placed}
 use Rattle.fancy_pattern.specs.Lexing.{Lexes, at_start}

@@ -4,7 +4,7 @@ use Rattle.std.specs.List.{list_any, count_by}
 use Rattle.std.proofs.lemmas.List.{map-append, take_more}
 use Rattle.std.proofs.lemmas.List.Folds.{list_any-append}
 use Rattle.std.proofs.lemmas.List.Sums.{sum_by_push}
-use Rattle.fancy_tokens.specs.declared.kept.Placed.{Placed as Code}
+use Rattle.fancy_tokens.specs.declared.tokens.Placed.{Placed as Code}
 use Rattle.fancy_tokens.specs.Tokens.{Placed}
 use Rattle.fancy_tokens.specs.PatternViews.{placed_of}
 

@@ -7,9 +7,9 @@ use Rattle.fancy_meaning.specs.Tree.{Tree, trees}
 use Rattle.fancy_meaning.specs.Nodes.{nodes, nodes_of_each}
 use Rattle.fancy_meaning.specs.WellFormed.{is_any_call}
 use Rattle.fancy_expr.specs.Each.{Each}
-use Rattle.fancy_tokens.specs.declared.kept.Kept.{Kept}
-use Rattle.fancy_tokens.specs.declared.kept.Kept.TheVariants as kept
-use Rattle.fancy_tokens.specs.declared.kept.Placed.{Placed as Code}
+use Rattle.fancy_tokens.specs.declared.tokens.Token.{Token as CodeToken}
+use Rattle.fancy_tokens.specs.declared.tokens.Token.TheVariants as token
+use Rattle.fancy_tokens.specs.declared.tokens.Placed.{Placed as Code}
 use Rattle.fancy_tokens.specs.declared.tokens.Enclosing.{Enclosing}
 use Rattle.fancy_tokens.specs.declared.tokens.Enclosing.TheVariants as enclosing
 use Rattle.fancy_tokens.specs.declared.tokens.Leaf.{Leaf}
@@ -20,7 +20,7 @@ use Rattle.fancy_tokens.specs.declared.tokens.Quantifier.{Quantifier}
 use Rattle.fancy_tokens.specs.declared.tokens.Suffix.{Suffix}
 use Rattle.fancy_tokens.specs.declared.tokens.Suffix.TheVariants.{Turned, Possessive}
 use Rattle.fancy_tokens.specs.Tokens.{Opening, If, Token, Node, Refer, FlagsItem, Open, Placed}
-use Rattle.fancy_tokens.specs.PatternViews.{leaf_of, opening_of, kept_of, placed_of}
+use Rattle.fancy_tokens.specs.PatternViews.{leaf_of, opening_of, token_of, placed_of}
 use Rattle.fancy_pattern.specs.Faults.{asked_by}
 use Rattle.fancy_pattern.specs.Stuck.{Within, whole, past}
 use Rattle.fancy_pattern.specs.Grammar.{Names, Takes, node_of, opening, class_of, suffixed, enclosed, is_empty, joined, alternated, SpellsAtom, node, class, opened, SpellsOpened, around, group, stopper, expression, asked, if_group, if_pattern, if_look, SpellsBodies, one_body, two_bodies, SpellsPiece, plain, quantified, SpellsPieces, no_piece, piece, SpellsBranch, branch, SpellsBars, no_bar, barred, SpellsAlternatives, branches}
@@ -73,13 +73,13 @@ opening_said : (o : code_opening.Opening) → is_some (asked_by (opening_of o)) 
 opening_said (opened_by.If r) h = absurd (true≢false h)
 opening_said o h = tt
 
-kept_said : (k : Kept) → names_group (kept_of k) ≡ false → QuietToken (kept_of k)
-kept_said (kept.Leaf l) h = leaf_quiet l
-kept_said (kept.Set casei letter text) h = ((refl, refl), tt)
-kept_said (kept.Numbered naming number left) h = absurd (true≢false h)
-kept_said (kept.Refer r) h = absurd (true≢false h)
-kept_said (kept.Open o) h = opening_said o.value.opening h
-kept_said k h = tt
+token_said : (k : CodeToken) → names_group (token_of k) ≡ false → QuietToken (token_of k)
+token_said (token.Leaf l) h = leaf_quiet l
+token_said (token.Set casei letter text) h = ((refl, refl), tt)
+token_said (token.Numbered naming number left) h = absurd (true≢false h)
+token_said (token.Refer r) h = absurd (true≢false h)
+token_said (token.Open o) h = opening_said o.value.opening h
+token_said k h = tt
 
 or_none : (a b : Bool) → (a || b) ≡ false → (a ≡ false) × (b ≡ false)
 or_none false b h = (refl, h)
@@ -88,8 +88,8 @@ or_none true b h = absurd (true≢false h)
 all_said : (ts : List Code) → list_any (λ p. names_group p.token) (map placed_of ts) ≡ false → AllSaid (map placed_of ts)
 all_said [] h = tt
 all_said (t ∷ ts) h =
-    let both = or_none (names_group (kept_of t.kept)) (list_any (λ p. names_group p.token) (map placed_of ts)) h in
-    (kept_said t.kept both.0, all_said ts both.1)
+    let both = or_none (names_group (token_of t.token)) (list_any (λ p. names_group p.token) (map placed_of ts)) h in
+    (token_said t.token both.0, all_said ts both.1)
 
 within : {y x : List Placed} → Within y x → AllSaid x → AllSaid y
 within whole h = h

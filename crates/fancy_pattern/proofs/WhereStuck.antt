@@ -10,7 +10,7 @@ use Rattle.fancy_pattern.specs.declared.failure.Failure.TheVariants as failure
 use Rattle.fancy_tokens.specs.declared.tokens.Enclosing.{Enclosing}
 use Rattle.fancy_tokens.specs.Tokens.{Reference, Opening, Around, Group, AbsentBar, If, IfPattern, IfLook, Token, Node, Refer, FlagsItem, Open, Close, ClassOpen, ClassClose, Placed, placed}
 use Rattle.fancy_pattern.specs.Grammar.{Names, Takes, first_gives, is_at, gives_some, is_branch_end, is_repeatable, bar, closing, quantifier, opening, node_of, class_open, class_text, class_close, reference, suffixed, alternated, SpellsClass, class_end, class_piece, SpellsAtom, node, class, opened, SpellsOpened, around, group, stopper, expression, asked, if_group, if_pattern, if_look, SpellsBodies, one_body, two_bodies, SpellsPiece, plain, quantified, SpellsPieces, no_piece, piece, SpellsBranch, branch, SpellsBars, no_bar, barred, SpellsAlternatives, branches}
-use Rattle.fancy_pattern.specs.Faults.{MisfitAt, IsPlace, at_token, at_name, asked_by, referring}
+use Rattle.fancy_pattern.specs.Faults.{misfit, IsPlace, at_token, at_name, asked_by, referring}
 use Rattle.fancy_pattern.specs.Stuck.{Within, whole, NoNode, Alike, SameFirst, both_ended, same_token, is_end, is_calm, anything, Stuck, Fails, IsMisfit, NoAtom, behind, unnamed, FailsOpened}
 use Rattle.fancy_pattern.specs.Reading.{SpellsLast, Quantifies, alone, by, Row}
 use Rattle.fancy_pattern.proofs.Lengths as lengths
@@ -376,7 +376,7 @@ alternatives_of_bars names x y t failure.Memory b s = tt
 
 -- ---- what ends with a closing parenthesis
 
-no_close : {names : Names} {x : List Placed} {f : Fault} → is_at closing x ≡ false → MisfitAt f x → Stuck names is_end (OneToken closing) x f
+no_close : {names : Names} {x : List Placed} {f : Fault} → is_at closing x ≡ false → f ≡ misfit x → Stuck names is_end (OneToken closing) x f
 unfolding close_token
 no_close lacks is =
     stuck_here (close_token ∷ []) (at_token is) (λ x' z v same t. there_or_not refl (sym (at_same closing same) ∙ lacks) t)

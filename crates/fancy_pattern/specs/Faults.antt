@@ -3,20 +3,20 @@
 use Rattle.std.specs.Prelude.{◌≡◌, List, [], ◌∷◌, ◌++◌, Option, Some, None}
 use Rattle.fancy_meaning.specs.Tree.{Tree}
 use Rattle.fancy_tokens.specs.declared.error.ErrorKind.{ErrorKind}
-use Rattle.fancy_tokens.specs.declared.error.ErrorKind.TheVariants.{InvalidGroupNameBackref}
+use Rattle.fancy_tokens.specs.declared.error.ErrorKind.TheVariants.{InvalidGroupNameBackref, TargetNotRepeatable, UnclosedOpenParen}
 use Rattle.fancy_tokens.specs.declared.error.Fault.{Fault}
 use Rattle.fancy_tokens.specs.Tokens.{Reference, Opening, If, Token, Refer, Open, Broken, Placed}
 use Rattle.fancy_pattern.specs.Grammar.{Names, first_gives, reference, SpellsAlternatives}
 
--- what cannot be read says why
-abbrev pub Tells : Token → ErrorKind → Type 0
-Tells (Broken found) kind = kind ≡ found
-Tells t kind = Unit {0}
+-- what cannot be read says why, and what is else at fault is a quantifier
+abbrev pub kind_at : Token → ErrorKind
+kind_at (Broken found) = found
+kind_at t = TargetNotRepeatable
 
--- the fault is where the next token begins, or at the end
-abbrev pub MisfitAt : Fault → List Placed → Type 0
-MisfitAt f [] = f.left ≡ 0
-MisfitAt f (p ∷ ps) = (f.left ≡ p.left) × Tells p.token f.kind
+-- the next token cannot stand there, or a parenthesis is not closed at the end
+abbrev pub misfit : List Placed → Fault
+misfit [] = record { left = 0; kind = UnclosedOpenParen }
+misfit (p ∷ ps) = record { left = p.left; kind = kind_at p.token }
 
 abbrev pub asked_by : Opening → Option Reference
 asked_by (If r) = Some r
@@ -31,7 +31,7 @@ referring t = None
 -- the fault is at the next token, or at the name in it: several groups have that name, so it cannot be called, or too
 -- many, so it cannot be referred to
 pub data IsPlace (names : Names) (f : Fault) (x : List Placed) : Type 0 where
-  at_token : MisfitAt f x → IsPlace names f x
+  at_token : f ≡ misfit x → IsPlace names f x
   at_name : (r : Reference) → first_gives referring x ≡ Some r → reference names r ≡ None →
       f ≡ record { left = r.left; kind = InvalidGroupNameBackref } →
       IsPlace names f x
@@ -48,4 +48,4 @@ pub data IsFaultAt (names : Names) (ts : List Placed) (f : Fault) : Type 0 where
       CanBegin names before →
       (CanBegin names (before ++ p ∷ []) → ⊥) →
       IsFaultAt names ts f
-  early : f.left ≡ 0 → CanBegin names ts → ((e : Tree) → SpellsAlternatives names ts [] e → ⊥) → IsFaultAt names ts f
+  early : f ≡ misfit [] → CanBegin names ts → ((e : Tree) → SpellsAlternatives names ts [] e → ⊥) → IsFaultAt names ts f

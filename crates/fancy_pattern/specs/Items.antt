@@ -17,7 +17,7 @@ use Rattle.fancy_pattern.specs.Escapes.{escape_at}
 use Rattle.fancy_pattern.specs.Quantifiers.{counts_at}
 use Rattle.fancy_pattern.specs.Groups.{opening_at}
 use Rattle.fancy_pattern.specs.Classes.{class_item_at}
-use Rattle.fancy_tokens.specs.PatternViews.{token_of}
+use Rattle.fancy_tokens.specs.PatternViews.{unboxed_of}
 use Rattle.fancy_tokens.specs.Nesting.{opened_by}
 
 -- `.`, by `s` and `R`
@@ -93,7 +93,7 @@ pub record Found : Type 0 where
   pub behind : Lexing
 
 abbrev pub found_of : code.Found → Found
-found_of x = record { token = token_of x.token; behind = x.behind }
+found_of x = record { token = unboxed_of x.token; behind = x.behind }
 
 -- outside of classes; a group may not be one too many
 unfoldable pub outside_at : Lexing → Text → Read Found

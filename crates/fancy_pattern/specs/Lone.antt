@@ -4,7 +4,6 @@ use Rattle.fancy_tokens.specs.declared.lexing.ClassPlace.{ClassPlace}
 use Rattle.fancy_tokens.specs.declared.lexing.Head.TheVariants as head
 use Rattle.fancy_tokens.specs.declared.lexing.Lexing.{Lexing}
 use Rattle.fancy_tokens.specs.Tokens.{Token, Open, Group}
-use Rattle.fancy_pattern.specs.Classes.{ClassItem}
 use Rattle.fancy_tokens.specs.Nesting.{opened_by}
 use Rattle.fancy_pattern.specs.Items.{Found, IsLone, class_of}
 
@@ -16,10 +15,6 @@ pub record IsQuiet (t : Token) : Type 0 where
   pub lone : IsLone t
   pub opens_none : opened_by t ≡ 0
   pub no_class_behind : class_of t ≡ no_class
-
--- a token of a class, and the place behind it
-abbrev pub class_token : Token → ClassPlace → ClassItem
-class_token t place = record { token = t; place = place }
 
 -- a token, and what holds behind it
 abbrev pub found_token : Token → Lexing → Found

@@ -7,7 +7,7 @@ use Rattle.fancy_pattern.specs.declared.failure.Failure.{Failure}
 use Rattle.fancy_pattern.specs.declared.failure.Failure.TheVariants as failure
 use Rattle.fancy_tokens.specs.Tokens.{Reference, Opening, If, Token, Refer, Placed}
 use Rattle.fancy_pattern.specs.Grammar.{Names, is_at, gives_some, quantifier, closing, reference, SpellsOpened}
-use Rattle.fancy_pattern.specs.Faults.{MisfitAt, IsPlace}
+use Rattle.fancy_pattern.specs.Faults.{misfit, IsPlace}
 
 -- y is what is left of x
 pub data Within (y : List Placed) : List Placed → Type 0 where
@@ -55,7 +55,7 @@ Fails names starts spells x failure.Memory = Unit {0}
 
 -- the next token cannot stand
 abbrev pub IsMisfit : List Placed → Failure → Type 0
-IsMisfit x (failure.Fault f) = MisfitAt f x
+IsMisfit x (failure.Fault f) = f ≡ misfit x
 IsMisfit x failure.Memory = ⊥
 
 -- there is no node for a name that begins here

@@ -3,15 +3,14 @@
 ghost use Rattle.std.specs.Prelude.{◌≡◌, List, length, map, chars, IfOk};
 ghost use Rattle.fancy_pattern.specs.AtomSpans.{AreAtomSpans, class_end, is_class_close, leaf_count, left_of, leaves_of, one_at_least, span_end, spans_from};
 ghost use Rattle.fancy_pattern.specs.Naming.{pairs_in};
-ghost use Rattle.fancy_tokens.specs.PatternViews.{kept_of, opening_of, placed_of, target_of};
+ghost use Rattle.fancy_tokens.specs.PatternViews.{token_of, opening_of, placed_of, target_of};
 ghost use Rattle.fancy_tokens.specs.Tokens.{Open};
 
 use crate::facts::Facts;
 use crate::group_names::GroupNames;
 use crate::options::ParseOptions;
 use crate::pattern::{chars_of, tokens};
-use fancy_tokens::kept::{Kept, Placed};
-use fancy_tokens::tokens::{Opening, Target};
+use fancy_tokens::tokens::{Opening, Placed, Target, Token};
 use std::alloc::{AllocError, Global};
 
 /// An atom of a pattern, and how many leaves of the tree it becomes. A leaf is a node without nodes below it.
@@ -59,11 +58,11 @@ fn spans_of(
     let mut spans = Vec::new(alloc);
     for at in 0..tokens.len() {
         let placed = &tokens[at];
-        let leaves = leaf_count(alloc, names, &placed.kept)?;
+        let leaves = leaf_count(alloc, names, &placed.token)?;
         if leaves > 0 {
             spans.push(AtomSpan {
                 start: length.saturating_sub(placed.left),
-                end: length.saturating_sub(span_end(&placed.kept, &tokens[at + 1..])),
+                end: length.saturating_sub(span_end(&placed.token, &tokens[at + 1..])),
                 leaves,
             })?;
         }
@@ -89,17 +88,17 @@ fn one_at_least(count: usize) -> usize
 }
 
 /// How many leaves stand for an atom that begins with this token; none where no atom does.
-fn leaf_count(alloc: Global, names: &GroupNames, kept: &Kept<'_>) -> Result<usize, AllocError>
+fn leaf_count(alloc: Global, names: &GroupNames, token: &Token<'_>) -> Result<usize, AllocError>
     ensures { IfOk result (λ count. count
-        ≡ leaf_count (pairs_in names.now.pairs) (kept_of kept.now)) }
+        ≡ leaf_count (pairs_in names.now.pairs) (token_of token.now)) }
 {
-    match kept {
-        Kept::Leaf(_) => Ok(1),
-        Kept::Set { .. } => Ok(1),
-        Kept::Numbered { .. } => Ok(1),
-        Kept::ClassOpen { .. } => Ok(1),
-        Kept::Refer(placed) => leaves_of(alloc, names, placed.reference.target),
-        Kept::Open(placed) => opening_leaf_count(alloc, names, placed.opening),
+    match token {
+        Token::Leaf(_) => Ok(1),
+        Token::Set { .. } => Ok(1),
+        Token::Numbered { .. } => Ok(1),
+        Token::ClassOpen { .. } => Ok(1),
+        Token::Refer(placed) => leaves_of(alloc, names, placed.reference.target),
+        Token::Open(placed) => opening_leaf_count(alloc, names, placed.opening),
         _ => Ok(0),
     }
 }
@@ -119,11 +118,11 @@ fn opening_leaf_count(
 }
 
 /// How many characters are left where an atom ends that begins with this token, before which these follow.
-fn span_end(kept: &Kept<'_>, rest: &[Placed<'_>]) -> usize
-    ensures { result ≡ span_end (kept_of kept.now) (map placed_of rest.now) }
+fn span_end(token: &Token<'_>, rest: &[Placed<'_>]) -> usize
+    ensures { result ≡ span_end (token_of token.now) (map placed_of rest.now) }
 {
-    match kept {
-        Kept::ClassOpen { .. } => class_end(rest),
+    match token {
+        Token::ClassOpen { .. } => class_end(rest),
         _ => left_of(rest),
     }
 }
@@ -143,18 +142,18 @@ fn class_end(tokens: &[Placed<'_>]) -> usize
     ensures { result ≡ class_end (map placed_of tokens.now) }
 {
     for at in 0..tokens.len() {
-        if is_class_close(&tokens[at].kept) {
+        if is_class_close(&tokens[at].token) {
             return left_of(&tokens[at + 1..]);
         }
     }
     0
 }
 
-fn is_class_close(kept: &Kept<'_>) -> bool
-    ensures { result ≡ is_class_close (kept_of kept.now) }
+fn is_class_close(token: &Token<'_>) -> bool
+    ensures { result ≡ is_class_close (token_of token.now) }
 {
-    match kept {
-        Kept::ClassClose => true,
+    match token {
+        Token::ClassClose => true,
         _ => false,
     }
 }

@@ -5,19 +5,18 @@ ghost use Rattle.fancy_pattern.specs.Texts.{seen};
 ghost use Rattle.fancy_pattern.specs.Classes as plain;
 ghost use Rattle.fancy_pattern.specs.Classes.{inner, fixed_escape, own_piece, coded_at, kept_set_at, other_class_escape_at, class_escape_at, bracket, caret, class_item_at};
 ghost use Rattle.fancy_pattern.specs.Items.{IsLone};
-ghost use Rattle.fancy_pattern.specs.Lone.{class_token};
-ghost use Rattle.fancy_tokens.specs.PatternViews.{kept_of, piece_text, token_of};
+ghost use Rattle.fancy_tokens.specs.Tokens.{ClassText};
+ghost use Rattle.fancy_tokens.specs.PatternViews.{piece_text, token_of};
 
 use crate::characters::first;
 use crate::error::fault_at;
 use crate::escapes::{hex_at, property_at};
 use fancy_tokens::error::{ErrorKind, Fault};
-use fancy_tokens::kept::Kept;
 use fancy_tokens::lexing::{ClassPlace, Head};
 use fancy_tokens::tokens::{ClassPiece, Token};
 
 /// A token of a class, and the place behind it.
-#[derive(Clone, Copy)]
+#[derive(Drop)]
 pub struct ClassItem<'a> {
     pub token: Token<'a>,
     pub place: ClassPlace,
@@ -136,18 +135,36 @@ fn other_class_escape_at<'a>(
     }
 }
 
+#[inline(always)]
+fn piece_token<'a>(piece: ClassPiece<'a>) -> Token<'a>
+    ensures { token_of result ≡ ClassText (piece_text piece.entry) }
+{
+    match piece {
+        ClassPiece::Char(c) => Token::ClassChar(c),
+        ClassPiece::Escaped(c) => Token::ClassEscaped(c),
+        ClassPiece::Code(c) => Token::ClassCode(c),
+        ClassPiece::Set { letter, text } => Token::ClassSet { letter, text },
+        ClassPiece::HexDigits { negated } => Token::ClassHexDigits { negated },
+        ClassPiece::Backspace => Token::ClassBackspace,
+        ClassPiece::Escape => Token::ClassEscape,
+    }
+}
+
+#[inline(always)]
 fn class_piece<'a>(piece: ClassPiece<'a>, place: ClassPlace) -> ClassItem<'a>
-    ensures { plain.class_item_of result ≡ plain.piece_item (piece_text piece.entry) place }
+    ensures value { plain.class_item_of result ≡ plain.piece_item (piece_text piece.entry) place }
+    ensures lone { IsLone (token_of result.token) }
 {
     ClassItem {
-        token: Token::ClassPiece(piece),
+        token: piece_token(piece),
         place,
     }
 }
 
 /// A `]`: the character itself at the head of a class, and otherwise the end of the innermost.
 fn bracket<'a>(place: ClassPlace) -> ClassItem<'a>
-    ensures { plain.class_item_of result ≡ bracket place }
+    ensures value { plain.class_item_of result ≡ bracket place }
+    ensures lone { IsLone (token_of result.token) }
 {
     match place.head {
         Head::Start => class_piece(ClassPiece::Escaped(']'), inner(place)),
@@ -157,7 +174,8 @@ fn bracket<'a>(place: ClassPlace) -> ClassItem<'a>
 }
 
 fn closing_bracket<'a>(place: ClassPlace) -> ClassItem<'a>
-    ensures { plain.class_item_of result ≡ plain.closing_bracket place }
+    ensures value { plain.class_item_of result ≡ plain.closing_bracket place }
+    ensures lone { IsLone (token_of result.token) }
 {
     let outer = ClassPlace {
         depth: place.depth.saturating_sub(1),
@@ -187,6 +205,7 @@ fn caret(place: ClassPlace) -> ClassPlace
 }
 
 /// The next token in a class.
+#[inline(always)]
 #[tactic(auto, unfolding(crate::specs::Classes::class_item_at))]
 pub(crate) fn class_item_at(
     place: ClassPlace,
@@ -195,6 +214,7 @@ pub(crate) fn class_item_at(
     requires { place.depth < 2 ^ 63 }
     ensures value { seen (λ p. (plain.class_item_of p.0, p.1.now)) result
         ≡ class_item_at place text.now }
+    ensures lone { IfOk result (λ p. IsLone (token_of p.0.token)) }
     ensures shorter { IfOk result (λ p. length p.1.now + 1 ≤ length text.now) }
     ensures depth { IfOk result (λ p. p.0.place.depth + length p.1.now
         ≤ place.depth + length text.now) }
@@ -220,68 +240,5 @@ pub(crate) fn class_item_at(
         ']' => Ok((bracket(place), after)),
         '^' => Ok((class_piece(ClassPiece::Char(c), caret(place)), after)),
         _ => Ok((class_piece(ClassPiece::Char(c), inner(place)), after)),
-    }
-}
-
-/// A `]` as it is kept, and the place behind it.
-fn kept_bracket<'a>(place: ClassPlace) -> (Kept<'a>, ClassPlace)
-    ensures value { class_token (kept_of result.0) result.1 ≡ bracket place }
-    ensures lone { IsLone (kept_of result.0) }
-    ensures depth { result.1.depth ≤ place.depth }
-{
-    match place.head {
-        Head::Start => (Kept::ClassEscaped(']'), inner(place)),
-        Head::Caret => (Kept::ClassEscaped(']'), inner(place)),
-        Head::Inner => kept_closing_bracket(place),
-    }
-}
-
-fn kept_closing_bracket<'a>(place: ClassPlace) -> (Kept<'a>, ClassPlace)
-    ensures value { class_token (kept_of result.0) result.1 ≡ plain.closing_bracket place }
-    ensures lone { IsLone (kept_of result.0) }
-    ensures depth { result.1.depth ≤ place.depth }
-{
-    let outer = ClassPlace {
-        depth: place.depth.saturating_sub(1),
-        head: Head::Inner,
-    };
-    if place.depth <= 1 {
-        (Kept::ClassClose, outer)
-    } else {
-        (Kept::ClassChar(']'), outer)
-    }
-}
-
-/// The next token in a class as it is kept, the place behind it and what follows it, unless a backslash begins it.
-#[inline(always)]
-#[tactic(auto, unfolding(crate::specs::Classes::class_item_at))]
-pub(crate) fn class_char_at(
-    place: ClassPlace,
-    text: &[char],
-) -> Option<(Kept<'_>, ClassPlace, &[char])>
-    requires { place.depth < 2 ^ 63 }
-    ensures value { IfSome result (λ p. class_item_at place text.now
-        ≡ Ok (class_token (kept_of p.0) p.1, p.2.now)) }
-    ensures lone { IfSome result (λ p. IsLone (kept_of p.0)) }
-    ensures shorter { IfSome result (λ p. length p.2.now + 1 ≤ length text.now) }
-    ensures depth { IfSome result (λ p. p.1.depth + length p.2.now
-        ≤ place.depth + length text.now) }
-{
-    let (c, after) = first(text)?;
-    match c {
-        '\\' => None,
-        '[' => {
-            let nested = ClassPlace {
-                depth: place.depth + 1,
-                head: Head::Start,
-            };
-            Some((Kept::ClassChar(c), nested, after))
-        }
-        ']' => {
-            let (kept, behind) = kept_bracket(place);
-            Some((kept, behind, after))
-        }
-        '^' => Some((Kept::ClassChar(c), caret(place), after)),
-        _ => Some((Kept::ClassChar(c), inner(place), after)),
     }
 }

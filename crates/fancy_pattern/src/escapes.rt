@@ -1,11 +1,11 @@
 //! What follows a backslash.
 
-ghost use Rattle.std.specs.Prelude.{◌≡◌, ◌^◌, ◌<◌, ◌≤◌, ◌+◌, length, Ok, IfOk, IfSome, option_map};
+ghost use Rattle.std.specs.Prelude.{◌≡◌, ◌≤◌, length, IfOk, IfSome, option_map};
 ghost use Rattle.fancy_expr.specs.Views.{assertion_of};
 ghost use Rattle.fancy_pattern.specs.Texts.{seen};
-ghost use Rattle.fancy_pattern.specs.Escapes.{leaf_escape, char_of, hex_at, braced_hex_at, bare_hex_at, property_length, property_at, boundary_at, numbered_at, escape_at, literal_escape, own_escape, literal_at, set, set_at, refer_at, is_set, other_escape_at};
-ghost use Rattle.fancy_tokens.specs.Tokens.{Node};
-ghost use Rattle.fancy_tokens.specs.PatternViews.{leaf_of, reference_of, token_of};
+ghost use Rattle.fancy_pattern.specs.Escapes.{leaf_escape, char_of, hex_at, braced_hex_at, bare_hex_at, property_length, property_at, boundary_at, numbered_at, escape_at, literal_escape, own_escape, literal_at, set_at, refer_at, is_set, other_escape_at};
+ghost use Rattle.fancy_pattern.specs.Lone.{IsQuiet};
+ghost use Rattle.fancy_tokens.specs.PatternViews.{leaf_of, unboxed_of};
 
 use crate::characters::{Test, first, run_length, skip_word, split_run};
 use crate::error::fault_at;
@@ -14,8 +14,7 @@ use crate::numbers::number;
 use fancy_expr::expr::Assertion;
 use fancy_tokens::error::{ErrorKind, Fault};
 use fancy_tokens::flags::Flags;
-use fancy_tokens::lexing::Lexing;
-use fancy_tokens::tokens::{Leaf, Naming, Reference, Target, Token};
+use fancy_tokens::tokens::{Leaf, Naming, Token, Unboxed};
 
 /// The character with the number that these hexadecimal digits write.
 fn char_of(digits: &[char]) -> Option<char>
@@ -186,13 +185,15 @@ fn own_escape(casei: bool, c: char) -> Option<Leaf>
 }
 
 /// What a backslash begins, from the character behind it on, where so many groups were opened.
+#[inline(always)]
 #[tactic(auto, unfolding(crate::specs::Escapes::escape_at))]
 pub(crate) fn escape_at(
     flags: Flags,
     opened: usize,
     text: &[char],
-) -> Result<(Token<'_>, &[char]), Fault>
-    ensures value { seen (λ p. (token_of p.0, p.1.now)) result ≡ escape_at flags opened text.now }
+) -> Result<(Unboxed<'_>, &[char]), Fault>
+    ensures value { seen (λ p. (unboxed_of p.0, p.1.now)) result ≡ escape_at flags opened text.now }
+    ensures quiet { IfOk result (λ p. IsQuiet (unboxed_of p.0)) }
     ensures shorter { IfOk result (λ p. length p.1.now ≤ length text.now) }
 {
     let Some((c, after)) = first(text) else {
@@ -206,7 +207,10 @@ pub(crate) fn escape_at(
         'P' => set_at(flags, c, after),
         'b' => {
             let (assertion, rest) = boundary_at(after);
-            Ok((Token::Leaf(Leaf::Assertion(assertion)), rest))
+            Ok((
+                Unboxed::Token(Token::Leaf(Leaf::Assertion(assertion))),
+                rest,
+            ))
         }
         'k' => refer_at(opened, Naming::Backref { casei: flags.casei }, after),
         'g' => refer_at(opened, Naming::Call, after),
@@ -215,43 +219,46 @@ pub(crate) fn escape_at(
 }
 
 #[tactic(auto, unfolding(crate::specs::Escapes::literal_at))]
-fn literal_at(flags: Flags, count: usize, text: &[char]) -> Result<(Token<'_>, &[char]), Fault>
-    ensures value { seen (λ p. (token_of p.0, p.1.now)) result ≡ literal_at flags count text.now }
+fn literal_at(flags: Flags, count: usize, text: &[char]) -> Result<(Unboxed<'_>, &[char]), Fault>
+    ensures value { seen (λ p. (unboxed_of p.0, p.1.now)) result ≡ literal_at flags count text.now }
+    ensures quiet { IfOk result (λ p. IsQuiet (unboxed_of p.0)) }
     ensures shorter { IfOk result (λ p. length p.1.now ≤ length text.now) }
 {
     let (val, rest) = hex_at(count, text)?;
     Ok((
-        Token::Leaf(Leaf::Literal {
+        Unboxed::Token(Token::Leaf(Leaf::Literal {
             val,
+            casei: flags.casei,
+        })),
+        rest,
+    ))
+}
+
+#[tactic(auto, unfolding(crate::specs::Escapes::set_at))]
+fn set_at(flags: Flags, letter: char, text: &[char]) -> Result<(Unboxed<'_>, &[char]), Fault>
+    ensures value { seen (λ p. (unboxed_of p.0, p.1.now)) result ≡ set_at flags letter text.now }
+    ensures quiet { IfOk result (λ p. IsQuiet (unboxed_of p.0)) }
+    ensures shorter { IfOk result (λ p. length p.1.now ≤ length text.now) }
+{
+    let (name, rest) = property_at(text)?;
+    Ok((
+        Unboxed::Token(Token::Set {
+            letter,
+            text: name,
             casei: flags.casei,
         }),
         rest,
     ))
 }
 
-#[tactic(auto, unfolding(crate::specs::Escapes::set_at))]
-fn set_at(flags: Flags, letter: char, text: &[char]) -> Result<(Token<'_>, &[char]), Fault>
-    ensures value { seen (λ p. (token_of p.0, p.1.now)) result ≡ set_at flags letter text.now }
-    ensures shorter { IfOk result (λ p. length p.1.now ≤ length text.now) }
-{
-    let (name, rest) = property_at(text)?;
-    Ok((
-        Token::Set {
-            letter,
-            text: name,
-            casei: flags.casei,
-        },
-        rest,
-    ))
-}
-
 #[tactic(auto, unfolding(crate::specs::Escapes::refer_at))]
-fn refer_at(opened: usize, naming: Naming, text: &[char]) -> Result<(Token<'_>, &[char]), Fault>
-    ensures value { seen (λ p. (token_of p.0, p.1.now)) result ≡ refer_at opened naming text.now }
+fn refer_at(opened: usize, naming: Naming, text: &[char]) -> Result<(Unboxed<'_>, &[char]), Fault>
+    ensures value { seen (λ p. (unboxed_of p.0, p.1.now)) result ≡ refer_at opened naming text.now }
+    ensures quiet { IfOk result (λ p. IsQuiet (unboxed_of p.0)) }
     ensures shorter { IfOk result (λ p. length p.1.now ≤ length text.now) }
 {
     let (reference, rest) = delimited_at(opened, naming, text)?;
-    Ok((Token::Refer(reference), rest))
+    Ok((Unboxed::Refer(reference), rest))
 }
 
 /// A set of one letter.
@@ -262,26 +269,28 @@ fn is_set(c: char) -> bool
 }
 
 /// The other escapes; `text` begins with the character, and `after` follows it.
+#[inline(always)]
 #[tactic(auto, unfolding(crate::specs::Escapes::other_escape_at))]
 fn other_escape_at<'a>(
     flags: Flags,
     c: char,
     text: &'a [char],
     after: &'a [char],
-) -> Result<(Token<'a>, &'a [char]), Fault>
+) -> Result<(Unboxed<'a>, &'a [char]), Fault>
     requires { length after.now ≤ length text.now }
-    ensures value { seen (λ p. (token_of p.0, p.1.now)) result
+    ensures value { seen (λ p. (unboxed_of p.0, p.1.now)) result
         ≡ other_escape_at flags c text.now after.now }
+    ensures quiet { IfOk result (λ p. IsQuiet (unboxed_of p.0)) }
     ensures shorter { IfOk result (λ p. length p.1.now ≤ length text.now) }
 {
     if is_set(c) {
         let (none, _) = after.split_at(0);
         return Ok((
-            Token::Set {
+            Unboxed::Token(Token::Set {
                 letter: c,
                 text: none,
                 casei: flags.casei,
-            },
+            }),
             after,
         ));
     }
@@ -289,64 +298,23 @@ fn other_escape_at<'a>(
         return numbered_at(flags, text);
     }
     match leaf_escape(flags, c) {
-        Some(leaf) => Ok((Token::Leaf(leaf), after)),
+        Some(leaf) => Ok((Unboxed::Token(Token::Leaf(leaf)), after)),
         None => Err(fault_at(ErrorKind::InvalidEscape, text)),
     }
 }
 
-/// An escape that one character tells, and that is a node without text.
-#[tactic(auto, unfolding(crate::specs::Escapes::escape_at, crate::specs::Escapes::other_escape_at))]
-pub(crate) fn leaf_escape_at<'a>(now: &Lexing, text: &'a [char]) -> Option<(Leaf, &'a [char])>
-    ensures value { IfSome result (λ p. escape_at now.now.flags now.now.opened text.now
-        ≡ Ok (Node (leaf_of p.0), p.1.now)) }
-    ensures shorter { IfSome result (λ p. length p.1.now ≤ length text.now) }
-{
-    let (c, after) = first(text)?;
-    match c {
-        'x' | 'u' | 'U' | 'p' | 'P' | 'b' | 'k' | 'g' => None,
-        _ => {
-            if is_set(c) {
-                return None;
-            }
-            if c.is_ascii_digit() {
-                return None;
-            }
-            let leaf = leaf_escape(now.flags, c)?;
-            Some((leaf, after))
-        }
-    }
-}
-
-/// A set of one letter, with the letter and what is behind it: nothing, and what follows.
-#[tactic(auto, unfolding(crate::specs::Escapes::escape_at, crate::specs::Escapes::other_escape_at))]
-pub(crate) fn set_escape_at<'a>(
-    now: &Lexing,
-    text: &'a [char],
-) -> Option<(char, &'a [char], &'a [char])>
-    ensures value { IfSome result (λ p. escape_at now.now.flags now.now.opened text.now
-        ≡ Ok (set now.now.flags p.0 p.1.now, p.2.now)) }
-    ensures shorter { IfSome result (λ p. length p.2.now ≤ length text.now) }
-{
-    let (c, after) = first(text)?;
-    if !is_set(c) {
-        return None;
-    }
-    let (none, _) = after.split_at(0);
-    Some((c, none, after))
-}
-
 /// A reference by its number.
 #[tactic(auto, unfolding(crate::specs::Escapes::numbered_at))]
-fn numbered_at(flags: Flags, text: &[char]) -> Result<(Token<'_>, &[char]), Fault>
-    ensures value { seen (λ p. (token_of p.0, p.1.now)) result ≡ numbered_at flags text.now }
+fn numbered_at(flags: Flags, text: &[char]) -> Result<(Unboxed<'_>, &[char]), Fault>
+    ensures value { seen (λ p. (unboxed_of p.0, p.1.now)) result ≡ numbered_at flags text.now }
+    ensures quiet { IfOk result (λ p. IsQuiet (unboxed_of p.0)) }
     ensures shorter { IfOk result (λ p. length p.1.now ≤ length text.now) }
 {
-    let (group, rest) = number_at(text)?;
+    let (number, rest) = number_at(text)?;
     Ok((
-        Token::Refer(Reference {
+        Unboxed::Token(Token::Numbered {
             naming: Naming::Backref { casei: flags.casei },
-            target: Target::Number(group),
-            level: None,
+            number,
             left: text.len(),
         }),
         rest,

@@ -6,10 +6,9 @@ ghost use Rattle.fancy_pattern.specs.Faults.{asked_by};
 ghost use Rattle.fancy_pattern.specs.Described.{by_number, names_number, asks_number, is_group, opens_group};
 ghost use Rattle.fancy_pattern.specs.Surveyed.{names_group};
 ghost use Rattle.fancy_pattern.specs.Spelling.{has_name, opens_named};
-ghost use Rattle.fancy_tokens.specs.PatternViews.{kept_of, placed_of, opening_of, target_of};
+ghost use Rattle.fancy_tokens.specs.PatternViews.{token_of, placed_of, opening_of, target_of};
 
-use fancy_tokens::kept::{Kept, Placed};
-use fancy_tokens::tokens::{Opening, Target};
+use fancy_tokens::tokens::{Opening, Placed, Target, Token};
 
 /// What tokens say of groups.
 #[derive(Clone, Copy)]
@@ -124,34 +123,34 @@ impl Facts {
 
     /// The same with what a further token says.
     #[inline(always)]
-    fn with_token(self, kept: &Kept<'_>) -> Facts
+    fn with_token(self, token: &Token<'_>) -> Facts
         requires room { self.groups + 1 < 2 ^ 64 }
         ensures few { result.groups ≤ self.groups + 1 }
         ensures groups { result.groups
-            ≡ self.groups + (if opens_group (kept_of kept.now) then 1 else 0) }
+            ≡ self.groups + (if opens_group (token_of token.now) then 1 else 0) }
         ensures by_number { result.by_number
-            ≡ (names_number (kept_of kept.now) || self.by_number) }
+            ≡ (names_number (token_of token.now) || self.by_number) }
         ensures names_group { result.names_group
-            ≡ (names_group (kept_of kept.now) || self.names_group) }
+            ≡ (names_group (token_of token.now) || self.names_group) }
         ensures has_names { result.has_names
-            ≡ (opens_named (kept_of kept.now) || self.has_names) }
+            ≡ (opens_named (token_of token.now) || self.has_names) }
     {
-        match kept {
-            Kept::Group(_) => Facts {
+        match token {
+            Token::Group(_) => Facts {
                 groups: self.groups + 1,
                 ..self
             },
-            Kept::Numbered { .. } => Facts {
+            Token::Numbered { .. } => Facts {
                 by_number: true,
                 names_group: true,
                 ..self
             },
-            Kept::Refer(placed) => Facts {
+            Token::Refer(placed) => Facts {
                 by_number: either(is_by_number(placed.reference.target), self.by_number),
                 names_group: true,
                 ..self
             },
-            Kept::Open(placed) => self.plus(of_opening(placed.opening)),
+            Token::Open(placed) => self.plus(of_opening(placed.opening)),
             _ => self,
         }
     }
@@ -169,7 +168,7 @@ impl Facts {
     {
         let mut facts = nothing();
         for placed in tokens {
-            facts = facts.with_token(&placed.kept);
+            facts = facts.with_token(&placed.token);
         }
         facts
     }

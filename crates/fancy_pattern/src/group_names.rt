@@ -4,7 +4,7 @@ ghost use Rattle.std.specs.Prelude.{◌≡◌, ℕ, List, map, string_bytes};
 ghost use Rattle.fancy_pattern.specs.Naming.{numbers_of, numbers_in, pairs_in};
 
 use crate::named::{numbers_of, pairs_of, text_of};
-use fancy_tokens::kept::Placed;
+use fancy_tokens::tokens::Placed;
 use std::alloc::{AllocError, Global};
 use std::collections::BTreeMap;
 

@@ -7,7 +7,7 @@ ghost use Rattle.fancy_pattern.specs.Texts.{seen, skip_common};
 ghost use Rattle.fancy_tokens.specs.Tokens as tokens;
 ghost use Rattle.fancy_pattern.specs.Groups as plain;
 ghost use Rattle.fancy_pattern.specs.Groups.{plain_group, named_group_at, call_at, numbered_call_at, verb_word_at, past_verb_at, verb_at, absent_at, angle_at, python_at, condition_number_at, condition_at, condition_by_group_at, named_condition_at, group_condition_at, look_at, pattern_condition_at, flags_item_at, minus_at, enclosing_of, other_question_at, question_at, opening_at};
-ghost use Rattle.fancy_tokens.specs.PatternViews.{item_of, opening_of, reference_of, target_of};
+ghost use Rattle.fancy_tokens.specs.PatternViews.{item_of, reference_of, target_of, token_of};
 
 use crate::characters::{Test, first, skip_word, split_run};
 use crate::error::fault_at;
@@ -17,20 +17,19 @@ use crate::numbers::number;
 use fancy_expr::expr::{BacktrackingControlVerb, LookAround};
 use fancy_tokens::error::{ErrorKind, Fault};
 use fancy_tokens::flags::Flags;
-use fancy_tokens::tokens::{Enclosing, Item, Leaf, Naming, Opening, Reference, Target, Token};
+use fancy_tokens::tokens::{
+    Enclosing, Item, Leaf, Naming, Opening, Reference, Target, Token, Unboxed,
+};
 
 /// A plain `(`: a group, unless only groups with names capture.
-fn plain_group<'a>(flags: Flags, opened: usize) -> Opening<'a>
+fn plain_group<'a>(flags: Flags, opened: usize) -> Token<'a>
     requires { opened < 2 ^ 63 }
-    ensures { opening_of result ≡ plain_group flags opened }
+    ensures { token_of result ≡ tokens.Open (plain_group flags opened) }
 {
     if flags.named_only {
-        Opening::Enclosing(Enclosing::Plain)
+        Token::Enclosing(Enclosing::Plain)
     } else {
-        Opening::Group {
-            number: opened + 1,
-            name: None,
-        }
+        Token::Group(opened + 1)
     }
 }
 
@@ -53,7 +52,7 @@ fn named_group_at(
         number: opened + 1,
         name: Some(name),
     };
-    Ok((Item::new(flags, Token::Open(group)), rest))
+    Ok((Item::new(flags, Unboxed::Open(group)), rest))
 }
 
 /// A reference by a name alone, up to the closing parenthesis.
@@ -63,7 +62,7 @@ fn call_at(flags: Flags, naming: Naming, text: &[char]) -> Result<(Item<'_>, &[c
     ensures shorter { IfOk result (λ p. length p.1.now ≤ length text.now) }
 {
     let (reference, rest) = named_at(naming, ')', text)?;
-    Ok((Item::new(flags, Token::Refer(reference)), rest))
+    Ok((Item::new(flags, Unboxed::Refer(reference)), rest))
 }
 
 /// A call by a number, up to the closing parenthesis.
@@ -78,7 +77,7 @@ fn numbered_call_at(
     ensures shorter { IfOk result (λ p. length p.1.now ≤ length text.now) }
 {
     let (reference, rest) = reference_at(opened, Naming::Call, ')', text)?;
-    Ok((Item::new(flags, Token::Refer(reference)), rest))
+    Ok((Item::new(flags, Unboxed::Refer(reference)), rest))
 }
 
 /// The verb whose name and closing parenthesis stand at the front.
@@ -144,7 +143,10 @@ fn verb_at(flags: Flags, text: &[char]) -> Result<(Item<'_>, &[char]), Fault>
     ensures shorter { IfOk result (λ p. length p.1.now ≤ length text.now) }
 {
     match verb_word_at(text) {
-        Some((verb, rest)) => Ok((Item::new(flags, Token::Leaf(Leaf::Verb(verb))), rest)),
+        Some((verb, rest)) => Ok((
+            Item::new(flags, Unboxed::Token(Token::Leaf(Leaf::Verb(verb)))),
+            rest,
+        )),
         None => Err(Fault {
             left: skip_verb(text),
             kind: ErrorKind::GeneralParseError,
@@ -159,10 +161,13 @@ fn absent_at(flags: Flags, text: &[char]) -> (Item<'_>, &[char])
     ensures shorter { length result.1.now ≤ length text.now }
 {
     if let Some(rest) = skip_word(text, "|)") {
-        return (Item::new(flags, Token::Leaf(Leaf::AbsentClear)), rest);
+        return (
+            Item::new(flags, Unboxed::Token(Token::Leaf(Leaf::AbsentClear))),
+            rest,
+        );
     }
     if let Some(rest) = skip_word(text, "|") {
-        return (Item::new(flags, Token::Open(Opening::AbsentBar)), rest);
+        return (Item::new(flags, Unboxed::Open(Opening::AbsentBar)), rest);
     }
     (around(flags, Enclosing::AbsentRepeater), text)
 }
@@ -170,7 +175,7 @@ fn absent_at(flags: Flags, text: &[char]) -> (Item<'_>, &[char])
 fn around<'a>(flags: Flags, enclosing: Enclosing) -> Item<'a>
     ensures { item_of result ≡ plain.around flags enclosing }
 {
-    Item::new(flags, Token::Open(Opening::Enclosing(enclosing)))
+    Item::new(flags, Unboxed::Token(Token::Enclosing(enclosing)))
 }
 
 /// What follows `(?<`: a look-behind, or the name of a group.
@@ -234,7 +239,7 @@ fn flags_item_at(flags: Flags, text: &[char]) -> Result<(Item<'_>, &[char]), Fau
     if item.is_group {
         Ok((around(item.flags, Enclosing::Plain), rest))
     } else {
-        Ok((Item::new(item.flags, Token::Flags), rest))
+        Ok((Item::new(item.flags, Unboxed::Token(Token::Flags)), rest))
     }
 }
 
@@ -318,7 +323,7 @@ pub(crate) fn opening_at(
         Some(('*', after)) => verb_at(flags, after),
         _ => {
             let group = plain_group(flags, opened);
-            Ok((Item::new(flags, Token::Open(group)), text))
+            Ok((Item::new(flags, Unboxed::Token(group)), text))
         }
     }
 }
@@ -378,7 +383,10 @@ fn condition_by_group_at<'a>(
         level,
         left: text.len(),
     };
-    Ok((Item::new(flags, Token::Open(Opening::If(reference))), rest))
+    Ok((
+        Item::new(flags, Unboxed::Open(Opening::If(reference))),
+        rest,
+    ))
 }
 
 /// A condition by what names a group between `<` and `>` or quotes.
@@ -393,7 +401,10 @@ fn named_condition_at(
 {
     let (reference, rest) = delimited_at(opened, Naming::Exists, text)?;
     let rest = closed_at(')', rest)?;
-    Ok((Item::new(flags, Token::Open(Opening::If(reference))), rest))
+    Ok((
+        Item::new(flags, Unboxed::Open(Opening::If(reference))),
+        rest,
+    ))
 }
 
 /// The same, or a condition that is a pattern.
@@ -443,7 +454,7 @@ fn pattern_condition_at(flags: Flags, text: &[char]) -> (Item<'_>, &[char])
     ensures shorter { length result.1.now ≤ length text.now }
 {
     match look_at(text) {
-        Some((look, rest)) => (Item::new(flags, Token::Open(Opening::IfLook(look))), rest),
-        None => (Item::new(flags, Token::Open(Opening::IfPattern)), text),
+        Some((look, rest)) => (Item::new(flags, Unboxed::Open(Opening::IfLook(look))), rest),
+        None => (Item::new(flags, Unboxed::Open(Opening::IfPattern)), text),
     }
 }

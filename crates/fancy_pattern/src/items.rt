@@ -4,33 +4,30 @@ ghost use Rattle.std.specs.Prelude.{◌≡◌, ◌≢◌, ◌+◌, ◌^◌, ◌<
 ghost use Rattle.fancy_meaning.specs.WellFormed.{most_groups};
 ghost use Rattle.fancy_pattern.specs.Texts.{Text, seen, gap_at};
 ghost use Rattle.fancy_pattern.specs.Escapes.{escape_at};
-ghost use Rattle.fancy_meaning.specs.Tree.{Literal};
 ghost use Rattle.fancy_pattern.specs.Items as plain;
 ghost use Rattle.fancy_pattern.specs.Items.{any_of, start_of, end_of, quantified, brace_at, sign_token, item_at, class_of, outside_at, within_at, IsLone, lone_found, found_at};
 ghost use Rattle.fancy_pattern.specs.Lone.{no_class, lone_in, next_group, IsQuiet};
 ghost use Rattle.fancy_tokens.specs.Tokens.{Close, item};
-ghost use Rattle.fancy_tokens.specs.PatternViews.{leaf_of, kept_of, token_of, item_of, opening_of};
+ghost use Rattle.fancy_tokens.specs.PatternViews.{leaf_of, token_of, unboxed_of, item_of};
 
 use crate::characters::first;
-use crate::classes::{class_char_at, class_item_at};
+use crate::classes::class_item_at;
 use crate::error::fault_at;
-use crate::escapes::{escape_at, leaf_escape_at, set_escape_at};
+use crate::escapes::escape_at;
 use crate::groups::opening_at;
-use crate::kept::kept_quantifier;
 use crate::quantifiers::counts_at;
 use fancy_expr::expr::Assertion;
 use fancy_expr::well_formed::MOST_GROUPS;
 use fancy_tokens::error::{ErrorKind, Fault};
 use fancy_tokens::flags::Flags;
-use fancy_tokens::kept::Kept;
 use fancy_tokens::lexing::{ClassPlace, Head, Lexing};
 use fancy_tokens::nesting::opened_by;
-use fancy_tokens::tokens::{Item, Leaf, Opening, Quantifier, Token};
+use fancy_tokens::tokens::{Item, Leaf, Quantifier, Token, Unboxed};
 
 /// A token, and what holds behind it.
-#[derive(Clone, Copy)]
+#[derive(Drop)]
 pub struct Found<'a> {
-    pub token: Token<'a>,
+    pub token: Unboxed<'a>,
     pub behind: Lexing,
 }
 
@@ -72,28 +69,27 @@ fn end_of(flags: Flags) -> Leaf
     }
 }
 
+#[inline(always)]
 fn quantified<'a>(flags: Flags, quantifier: Quantifier) -> Token<'a>
     ensures { token_of result ≡ quantified flags quantifier }
 {
-    Token::Quantifier {
-        quantifier,
-        greedy: !flags.swap_greed,
+    let greedy = !flags.swap_greed;
+    match quantifier {
+        Quantifier::Star => Token::Star { greedy },
+        Quantifier::Plus => Token::Plus { greedy },
+        Quantifier::Question => Token::Question { greedy },
+        Quantifier::Counts { lo, hi } => Token::Counts { greedy, lo, hi },
     }
 }
 
-pub(crate) fn literal_leaf(flags: Flags, c: char) -> Leaf
-    ensures { leaf_of result ≡ Literal c flags.casei }
-{
-    Leaf::Literal {
-        val: c,
-        casei: flags.casei,
-    }
-}
-
+#[inline(always)]
 fn literal<'a>(flags: Flags, c: char) -> Token<'a>
     ensures { token_of result ≡ plain.literal flags c }
 {
-    Token::Leaf(literal_leaf(flags, c))
+    Token::Leaf(Leaf::Literal {
+        val: c,
+        casei: flags.casei,
+    })
 }
 
 /// A `{`: counts, or a literal; `text` begins with it, and `after` follows it.
@@ -105,6 +101,7 @@ fn brace_at<'a>(
 ) -> Result<(Token<'a>, &'a [char]), Fault>
     ensures value { seen (λ p. (token_of p.0, p.1.now)) result
         ≡ brace_at flags text.now after.now }
+    ensures quiet { IfOk result (λ p. IsQuiet (token_of p.0)) }
     ensures shorter { IfOk result (λ p. length p.1.now ≤ length after.now) }
 {
     match counts_at(after, flags.ignore_whitespace) {
@@ -117,8 +114,10 @@ fn brace_at<'a>(
 }
 
 /// The tokens of one character that are no literals.
+#[inline(always)]
 fn sign_token<'a>(flags: Flags, c: char) -> Option<Token<'a>>
-    ensures { option_map token_of result ≡ sign_token flags c }
+    ensures value { option_map token_of result ≡ sign_token flags c }
+    ensures quiet { c ≢ 41 → c ≢ 91 → IfSome result (λ t. IsQuiet (token_of t)) }
 {
     match c {
         '.' => Some(Token::Leaf(any_of(flags))),
@@ -145,7 +144,7 @@ fn item_at(flags: Flags, opened: usize, text: &[char]) -> Result<(Item<'_>, &[ch
         return Err(fault_at(ErrorKind::GeneralParseError, text));
     };
     if let Some(token) = sign_token(flags, c) {
-        return Ok((Item::new(flags, token), after));
+        return Ok((Item::new(flags, Unboxed::Token(token)), after));
     }
     match c {
         '(' => opening_at(flags, opened, after),
@@ -155,19 +154,19 @@ fn item_at(flags: Flags, opened: usize, text: &[char]) -> Result<(Item<'_>, &[ch
         }
         '{' => {
             let (token, rest) = brace_at(flags, text, after)?;
-            Ok((Item::new(flags, token), rest))
+            Ok((Item::new(flags, Unboxed::Token(token)), rest))
         }
-        _ => Ok((Item::new(flags, literal(flags, c)), after)),
+        _ => Ok((Item::new(flags, Unboxed::Token(literal(flags, c))), after)),
     }
 }
 
 /// The class that is open behind a token.
-fn class_of(token: Token<'_>) -> ClassPlace
-    ensures value { result ≡ class_of (token_of token.entry) }
+fn class_of(token: &Unboxed<'_>) -> ClassPlace
+    ensures value { result ≡ class_of (unboxed_of token.now) }
     ensures one { result.depth ≤ 1 }
 {
     match token {
-        Token::ClassOpen { .. } => ClassPlace {
+        Unboxed::Token(Token::ClassOpen { .. }) => ClassPlace {
             depth: 1,
             head: Head::Start,
         },
@@ -194,18 +193,19 @@ fn outside_at(now: Lexing, text: &[char]) -> Result<(Found<'_>, &[char]), Fault>
     ensures depth { IfOk result (λ p. p.0.behind.class.depth ≤ 1) }
 {
     let (item, rest) = item_at(now.flags, now.opened, text)?;
-    let opened = now.opened + opened_by(item.token);
+    let opened = now.opened + opened_by(&item.token);
     if opened > MOST_GROUPS {
         return Err(fault_at(ErrorKind::GeneralParseError, text));
     }
+    let behind = Lexing {
+        flags: item.flags,
+        opened,
+        class: class_of(&item.token),
+    };
     Ok((
         Found {
             token: item.token,
-            behind: Lexing {
-                flags: item.flags,
-                opened,
-                class: class_of(item.token),
-            },
+            behind,
         },
         rest,
     ))
@@ -225,7 +225,7 @@ fn within_at(now: Lexing, text: &[char]) -> Result<(Found<'_>, &[char]), Fault>
     let (item, rest) = class_item_at(now.class, text)?;
     Ok((
         Found {
-            token: item.token,
+            token: Unboxed::Token(item.token),
             behind: Lexing {
                 flags: now.flags,
                 opened: now.opened,
@@ -236,95 +236,31 @@ fn within_at(now: Lexing, text: &[char]) -> Result<(Found<'_>, &[char]), Fault>
     ))
 }
 
-/// The tokens of one character that are no literals and neither begin nor end a group or a class, as they are kept.
-#[inline(always)]
-fn kept_sign<'a>(flags: Flags, c: char) -> Option<Kept<'a>>
-    requires no_closing { c ≢ 41 }
-    requires no_class { c ≢ 91 }
-    ensures value { option_map kept_of result ≡ sign_token flags c }
-    ensures quiet { IfSome result (λ k. IsQuiet (kept_of k)) }
-{
-    let greedy = !flags.swap_greed;
-    match c {
-        '.' => Some(Kept::Leaf(any_of(flags))),
-        '^' => Some(Kept::Leaf(start_of(flags))),
-        '$' => Some(Kept::Leaf(end_of(flags))),
-        '|' => Some(Kept::Bar),
-        '*' => Some(Kept::Star { greedy }),
-        '+' => Some(Kept::Plus { greedy }),
-        '?' => Some(Kept::Question { greedy }),
-        _ => None,
-    }
-}
-
-/// A `{` as it is kept: counts that are in order, or a literal; `after` follows it.
-#[inline(always)]
-#[tactic(auto, unfolding(crate::specs::Items::brace_at))]
-fn kept_brace_at<'a>(flags: Flags, after: &'a [char]) -> Option<(Kept<'a>, &'a [char])>
-    ensures value { (text : Text) → IfSome result (λ p. brace_at flags text after.now
-        ≡ Ok (kept_of p.0, p.1.now)) }
-    ensures quiet { IfSome result (λ p. IsQuiet (kept_of p.0)) }
-    ensures shorter { IfSome result (λ p. length p.1.now ≤ length after.now) }
-{
-    match counts_at(after, flags.ignore_whitespace) {
-        Some((counts, rest)) => match counts {
-            Ok(quantifier) => Some((kept_quantifier(quantifier, !flags.swap_greed), rest)),
-            Err(_) => None,
-        },
-        None => Some((Kept::Leaf(literal_leaf(flags, '{')), after)),
-    }
-}
-
-/// An escape of one character, as it is kept; `text` begins behind its backslash.
-#[inline(always)]
-fn kept_escape_at<'a>(now: &Lexing, text: &'a [char]) -> Option<(Kept<'a>, &'a [char])>
-    ensures value { IfSome result (λ p. escape_at now.now.flags now.now.opened text.now
-        ≡ Ok (kept_of p.0, p.1.now)) }
-    ensures quiet { IfSome result (λ p. IsQuiet (kept_of p.0)) }
-    ensures shorter { IfSome result (λ p. length p.1.now ≤ length text.now) }
-{
-    match leaf_escape_at(now, text) {
-        Some((leaf, rest)) => Some((Kept::Leaf(leaf), rest)),
-        None => {
-            let (letter, text, rest) = set_escape_at(now, text)?;
-            let casei = now.flags.casei;
-            Some((
-                Kept::Set {
-                    casei,
-                    letter,
-                    text,
-                },
-                rest,
-            ))
-        }
-    }
-}
-
 /// Outside of classes and of free spacing, the token at the front and what follows it, where that is found at once: a
 /// character, counts, or an escape of one character, and nothing that begins or ends a group or a class.
 #[inline(always)]
 #[tactic(auto, unfolding(crate::specs::Items::item_at))]
-fn lone_item_at<'a>(now: &Lexing, text: &'a [char]) -> Option<(Kept<'a>, &'a [char])>
+fn lone_item_at<'a>(now: &Lexing, text: &'a [char]) -> Option<(Token<'a>, &'a [char])>
     ensures value { IfSome result (λ p. item_at now.now.flags now.now.opened text.now
-        ≡ Ok (item now.now.flags (kept_of p.0), p.1.now)) }
-    ensures quiet { IfSome result (λ p. IsQuiet (kept_of p.0)) }
+        ≡ Ok (item now.now.flags (token_of p.0), p.1.now)) }
+    ensures quiet { IfSome result (λ p. IsQuiet (token_of p.0)) }
     ensures no_gap { IfSome result (λ p. gap_at false text.now ≡ None) }
     ensures shorter { IfSome result (λ p. length p.1.now + 1 ≤ length text.now) }
 {
     let (c, after) = first(text)?;
     match c {
         '(' | ')' | '[' => None,
-        '{' => {
-            let (kept, rest) = kept_brace_at(now.flags, after)?;
-            Some((kept, rest))
-        }
+        '{' => brace_at(now.flags, text, after).ok(),
         '\\' => {
-            let (kept, rest) = kept_escape_at(now, after)?;
-            Some((kept, rest))
+            let (found, rest) = escape_at(now.flags, now.opened, after).ok()?;
+            match found {
+                Unboxed::Token(token) => Some((token, rest)),
+                _ => None,
+            }
         }
-        _ => match kept_sign(now.flags, c) {
-            Some(kept) => Some((kept, after)),
-            None => Some((Kept::Leaf(literal_leaf(now.flags, c)), after)),
+        _ => match sign_token(now.flags, c) {
+            Some(token) => Some((token, after)),
+            None => Some((literal(now.flags, c), after)),
         },
     }
 }
@@ -332,19 +268,19 @@ fn lone_item_at<'a>(now: &Lexing, text: &'a [char]) -> Option<(Kept<'a>, &'a [ch
 /// The same, and what holds behind that token.
 #[inline(always)]
 #[tactic(auto, using(crate::proofs::QuietTokens::outside_of_item))]
-fn lone_outside_at<'a>(now: &Lexing, text: &'a [char]) -> Option<(Kept<'a>, &'a [char])>
+fn lone_outside_at<'a>(now: &Lexing, text: &'a [char]) -> Option<(Token<'a>, &'a [char])>
     requires { now.now.opened ≤ most_groups }
     ensures value { IfSome result (λ p. outside_at now.now text.now
-        ≡ Ok (lone_found now.now (kept_of p.0), p.1.now)) }
-    ensures lone { IfSome result (λ p. IsLone (kept_of p.0)) }
+        ≡ Ok (lone_found now.now (token_of p.0), p.1.now)) }
+    ensures lone { IfSome result (λ p. IsLone (token_of p.0)) }
     ensures no_gap { IfSome result (λ p. gap_at now.now.flags.ignore_whitespace text.now ≡ None) }
     ensures shorter { IfSome result (λ p. length p.1.now + 1 ≤ length text.now) }
 {
     if now.flags.ignore_whitespace {
         return None;
     }
-    let (kept, after) = lone_item_at(now, text)?;
-    Some((kept, after))
+    let (token, after) = lone_item_at(now, text)?;
+    Some((token, after))
 }
 
 /// The token at the front, the class behind it and what follows it, where that is found at once.
@@ -353,12 +289,12 @@ fn lone_outside_at<'a>(now: &Lexing, text: &'a [char]) -> Option<(Kept<'a>, &'a 
 pub(crate) fn lone_at<'a>(
     now: &Lexing,
     text: &'a [char],
-) -> Option<(Kept<'a>, ClassPlace, &'a [char])>
+) -> Option<(Token<'a>, ClassPlace, &'a [char])>
     requires room { now.now.class.depth < 2 ^ 63 }
     requires opened { now.now.opened ≤ most_groups }
     ensures value { IfSome result (λ p. found_at now.now text.now
-        ≡ Ok (lone_in now.now (kept_of p.0) p.1, p.2.now)) }
-    ensures lone { IfSome result (λ p. IsLone (kept_of p.0)) }
+        ≡ Ok (lone_in now.now (token_of p.0) p.1, p.2.now)) }
+    ensures lone { IfSome result (λ p. IsLone (token_of p.0)) }
     ensures no_gap { IfSome result (λ p. now.now.class.depth ≡ 0
         → gap_at now.now.flags.ignore_whitespace text.now ≡ None) }
     ensures shorter { IfSome result (λ p. length p.2.now + 1 ≤ length text.now) }
@@ -366,10 +302,11 @@ pub(crate) fn lone_at<'a>(
         ≤ now.now.class.depth + length text.now) }
 {
     if now.class.depth > 0 {
-        return class_char_at(now.class, text);
+        let (item, after) = class_item_at(now.class, text).ok()?;
+        return Some((item.token, item.place, after));
     }
-    let (kept, after) = lone_outside_at(now, text)?;
-    Some((kept, no_class(), after))
+    let (token, after) = lone_outside_at(now, text)?;
+    Some((token, no_class(), after))
 }
 
 /// Outside of classes and of free spacing, the same where a character stands for itself.
@@ -378,11 +315,11 @@ pub(crate) fn lone_at<'a>(
 pub(crate) fn literal_at<'a>(
     now: &Lexing,
     text: &'a [char],
-) -> Option<(Kept<'a>, ClassPlace, &'a [char])>
+) -> Option<(Token<'a>, ClassPlace, &'a [char])>
     requires { now.now.opened ≤ most_groups }
     ensures value { IfSome result (λ p. found_at now.now text.now
-        ≡ Ok (lone_in now.now (kept_of p.0) p.1, p.2.now)) }
-    ensures lone { IfSome result (λ p. IsLone (kept_of p.0)) }
+        ≡ Ok (lone_in now.now (token_of p.0) p.1, p.2.now)) }
+    ensures lone { IfSome result (λ p. IsLone (token_of p.0)) }
     ensures no_gap { IfSome result (λ p. gap_at now.now.flags.ignore_whitespace text.now ≡ None) }
     ensures shorter { IfSome result (λ p. length p.2.now + 1 ≤ length text.now) }
     ensures depth { IfSome result (λ p. p.1.depth ≡ 0) }
@@ -393,7 +330,7 @@ pub(crate) fn literal_at<'a>(
     let (c, after) = first(text)?;
     match c {
         '(' | ')' | '[' | '{' | '\\' | '.' | '^' | '$' | '|' | '*' | '+' | '?' => None,
-        _ => Some((Kept::Leaf(literal_leaf(now.flags, c)), no_class(), after)),
+        _ => Some((literal(now.flags, c), no_class(), after)),
     }
 }
 

@@ -3,15 +3,14 @@
 ghost use Rattle.std.specs.Prelude.{◌≡◌, ◌+◌, ◌^◌, ◌<◌, ◌≤◌, length};
 ghost use Rattle.fancy_meaning.specs.WellFormed.{most_groups};
 
+use crate::boxed::{Counted, boxed};
 use crate::characters::skip_gap;
 use crate::items::{closing_at, found_at, group_at, literal_at, lone_at, no_class};
-use crate::kept::{Counted, keep};
 use fancy_tokens::error::{ErrorKind, Fault};
 use fancy_tokens::flags::Flags;
-use fancy_tokens::kept::{Kept, Placed};
 use fancy_tokens::lexing::{ClassPlace, Head, Lexing};
 use fancy_tokens::nesting::{behind_token, enter};
-use fancy_tokens::tokens::Opening;
+use fancy_tokens::tokens::{Opening, Placed, Token};
 use std::alloc::{AllocError, Global};
 
 /// What is known when a pattern has been read up to some character.
@@ -35,7 +34,7 @@ impl<'a> Lexer<'a> {
     ghost use Rattle.fancy_pattern.specs.Lone.{found_token, lone_in, next_group};
     ghost use Rattle.fancy_pattern.specs.Lexing.{at_start, IsAtToken, Lexes};
     ghost use Rattle.fancy_pattern.specs.LexerViews.{state_of, text_of, placed_in, Steps, Pushes};
-    ghost use Rattle.fancy_tokens.specs.PatternViews.{kept_of, placed_of};
+    ghost use Rattle.fancy_tokens.specs.PatternViews.{placed_of, token_of};
     ghost use Rattle.fancy_tokens.specs.Tokens.{Close, placed, broken};
 
     /// A token takes a character at least, so there is room for all of them.
@@ -63,10 +62,10 @@ impl<'a> Lexer<'a> {
     }
 
     #[inline(always)]
-    fn push(&mut self, left: usize, kept: Kept<'a>) -> Result<(), AllocError>
-        ensures { OnOk result (Pushes (placed left (kept_of kept.entry)) self.old self.new) }
+    fn push(&mut self, left: usize, token: Token<'a>) -> Result<(), AllocError>
+        ensures { OnOk result (Pushes (placed left (token_of token.entry)) self.old self.new) }
     {
-        self.tokens.push(Placed { left, kept })?;
+        self.tokens.push(Placed { left, token })?;
         Ok(())
     }
 
@@ -76,7 +75,7 @@ impl<'a> Lexer<'a> {
     fn break_off(&mut self, fault: Fault) -> Result<bool, AllocError>
         ensures { IfOk result (λ more. (more ≡ false) × Pushes (broken fault) self.old self.new) }
     {
-        self.push(fault.left, Kept::Broken(fault.kind))?;
+        self.push(fault.left, Token::Broken(fault.kind))?;
         Ok(false)
     }
 
@@ -84,14 +83,14 @@ impl<'a> Lexer<'a> {
     #[inline(always)]
     fn pass_lone(
         &mut self,
-        kept: Kept<'a>,
+        token: Token<'a>,
         class: ClassPlace,
         after: &'a [char],
     ) -> Result<bool, AllocError>
         requires token { IsAtToken (state_of self.old) (text_of self.old) }
         requires found { found_at self.old.now self.old.rest.now
-            ≡ Ok (lone_in self.old.now (kept_of kept) class, after.now) }
-        requires lone { IsLone (kept_of kept) }
+            ≡ Ok (lone_in self.old.now (token_of token) class, after.now) }
+        requires lone { IsLone (token_of token) }
         requires shorter { length after.now < length self.old.rest.now }
         requires shallow { class.depth + length after.now < 2 ^ 63 }
         ensures goes_on { IfOk result (λ more. more ≡ true) }
@@ -99,7 +98,7 @@ impl<'a> Lexer<'a> {
         ensures shorter { IfOk result (λ more. length self.new.rest.now
             < length self.old.rest.now) }
     {
-        self.push(self.rest.len(), kept)?;
+        self.push(self.rest.len(), token)?;
         self.rest = after;
         self.now.class = class;
         Ok(true)
@@ -108,13 +107,13 @@ impl<'a> Lexer<'a> {
     /// Goes past the token at the front, and returns whether the text goes on.
     fn pass(
         &mut self,
-        kept: Kept<'a>,
+        token: Token<'a>,
         behind: Lexing,
         after: &'a [char],
     ) -> Result<bool, AllocError>
         requires token { IsAtToken (state_of self.old) (text_of self.old) }
         requires found { found_at self.old.now self.old.rest.now
-            ≡ Ok (found_token (kept_of kept) behind, after.now) }
+            ≡ Ok (found_token (token_of token) behind, after.now) }
         requires shorter { length after.now < length self.old.rest.now }
         requires few { behind.opened ≤ most_groups }
         requires shallow { behind.class.depth + length after.now < 2 ^ 63 }
@@ -123,9 +122,9 @@ impl<'a> Lexer<'a> {
             → length self.new.rest.now < length self.old.rest.now) }
     {
         let left = self.rest.len();
-        match behind_token(&mut self.outer, self.now.flags, &kept, behind, left)? {
+        match behind_token(&mut self.outer, self.now.flags, &token, behind, left)? {
             Ok(now) => {
-                self.push(left, kept)?;
+                self.push(left, token)?;
                 self.rest = after;
                 self.now = now;
                 Ok(true)
@@ -143,8 +142,8 @@ impl<'a> Lexer<'a> {
     {
         match found_at(self.now, self.rest) {
             Ok((found, after)) => {
-                let kept = keep(self.alloc, &mut self.counted, self.rest, found.token)?;
-                self.pass(kept, found.behind, after)
+                let token = boxed(self.alloc, &mut self.counted, self.rest, found.token)?;
+                self.pass(token, found.behind, after)
             }
             Err(fault) => self.break_off(fault),
         }
@@ -164,7 +163,7 @@ impl<'a> Lexer<'a> {
         let left = self.rest.len();
         match self.outer.pop() {
             Some(flags) => {
-                self.push(left, Kept::Close)?;
+                self.push(left, Token::Close)?;
                 self.rest = after;
                 self.now.flags = flags;
                 self.now.class = no_class();
@@ -194,7 +193,7 @@ impl<'a> Lexer<'a> {
         let opening = Opening::Group { number, name: None };
         match enter(&mut self.outer, self.now.flags, opening, left)? {
             Ok(()) => {
-                self.push(left, Kept::Group(number))?;
+                self.push(left, Token::Group(number))?;
                 self.rest = after;
                 self.now.opened = number;
                 self.now.class = no_class();
@@ -246,8 +245,8 @@ impl<'a> Lexer<'a> {
         ensures shorter { IfOk result (λ u. length self.new.rest.now
             ≤ length self.old.rest.now) }
     {
-        while let Some((kept, class, after)) = literal_at(&self.now, self.rest) {
-            self.pass_lone(kept, class, after)?;
+        while let Some((token, class, after)) = literal_at(&self.now, self.rest) {
+            self.pass_lone(token, class, after)?;
         }
         Ok(())
     }
@@ -261,7 +260,7 @@ impl<'a> Lexer<'a> {
     {
         self.pass_literals()?;
         match lone_at(&self.now, self.rest) {
-            Some((kept, class, after)) => self.pass_lone(kept, class, after),
+            Some((token, class, after)) => self.pass_lone(token, class, after),
             None => self.next_parenthesis(),
         }
     }

@@ -2,6 +2,7 @@
 #![tactic(auto)]
 
 pub mod atom_spans;
+mod boxed;
 mod characters;
 mod class_text;
 mod classes;
@@ -14,7 +15,6 @@ pub mod flags;
 mod group_names;
 mod groups;
 mod items;
-mod kept;
 mod lexer;
 mod named;
 mod names;

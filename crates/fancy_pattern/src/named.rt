@@ -5,10 +5,9 @@ ghost use Rattle.std.specs.Option.{option_map};
 ghost use Rattle.std.specs.List.{list_any};
 ghost use Rattle.fancy_pattern.specs.Spelling.{opens_named};
 ghost use Rattle.fancy_pattern.specs.Naming.{numbers_of, numbers_in, pairs_in, named_in, named_of, named_by, named_opening};
-ghost use Rattle.fancy_tokens.specs.PatternViews.{kept_of, placed_of, opening_of};
+ghost use Rattle.fancy_tokens.specs.PatternViews.{token_of, placed_of, opening_of};
 
-use fancy_tokens::kept::{Kept, Placed};
-use fancy_tokens::tokens::Opening;
+use fancy_tokens::tokens::{Opening, Placed, Token};
 use std::alloc::{AllocError, Global};
 use std::collections::BTreeMap;
 
@@ -24,11 +23,11 @@ pub(crate) fn text_of(alloc: Global, chars: &[char]) -> Result<String, AllocErro
 }
 
 /// The name and the number of a group that a token opens.
-fn named_by<'a>(kept: &Kept<'a>) -> Option<(&'a [char], usize)>
-    ensures { option_map (λ p. (p.0.now, p.1)) result ≡ named_by (kept_of kept.now) }
+fn named_by<'a>(token: &Token<'a>) -> Option<(&'a [char], usize)>
+    ensures { option_map (λ p. (p.0.now, p.1)) result ≡ named_by (token_of token.now) }
 {
-    match kept {
-        Kept::Open(placed) => named_opening(placed.opening),
+    match token {
+        Token::Open(placed) => named_opening(placed.opening),
         _ => None,
     }
 }
@@ -55,7 +54,7 @@ fn push_named(
     ensures { OnOk result (pairs_in pairs.new
         ≡ pairs_in pairs.old ++ named_of (placed_of placed.now).token) }
 {
-    match named_by(&placed.kept) {
+    match named_by(&placed.token) {
         Some((name, number)) => {
             pairs.push((text_of(alloc, name)?, number))?;
             Ok(())

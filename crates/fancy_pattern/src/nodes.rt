@@ -13,7 +13,7 @@ ghost use Rattle.fancy_tokens.specs.declared.tokens.Naming.TheVariants as naming
 ghost use Rattle.fancy_expr.specs.Each.{Each};
 ghost use Rattle.fancy_pattern.specs.Reading.{OneCharEach};
 ghost use Rattle.fancy_pattern.specs.Stuck.{NoNode, NoAtom};
-ghost use Rattle.fancy_tokens.specs.PatternViews.{leaf_of, hex_class, kept_of, reference_of};
+ghost use Rattle.fancy_tokens.specs.PatternViews.{leaf_of, hex_class, token_of, reference_of};
 
 use crate::class_text::push_escape;
 use crate::failure::Failure;
@@ -21,8 +21,7 @@ use crate::group_names::GroupNames;
 use crate::named::text_of;
 use fancy_expr::expr::{Absent, AstNode, CaptureGroupTarget, Expr};
 use fancy_tokens::error::{ErrorKind, Fault};
-use fancy_tokens::kept::Kept;
-use fancy_tokens::tokens::{Enclosing, Leaf, Naming, Quantifier, Reference, Suffix, Target};
+use fancy_tokens::tokens::{Enclosing, Leaf, Naming, Quantifier, Reference, Suffix, Target, Token};
 use std::alloc::{AllocError, Global};
 
 /// So many groups may have a name that is referred to.
@@ -411,24 +410,24 @@ pub(crate) fn suffixed(
 pub(crate) fn node(
     alloc: Global,
     names: &GroupNames,
-    kept: &Kept<'_>,
+    token: &Token<'_>,
 ) -> Result<Option<Expr>, Failure>
     ensures made { IfOk result (λ found. option_map tree_of found
-        ≡ grammar.node_of (pairs_in names.now.pairs) (kept_of kept.now)) }
+        ≡ grammar.node_of (pairs_in names.now.pairs) (token_of token.now)) }
     ensures one_char { IfOk result (λ found. IfSome found OneCharEach) }
     ensures fails { IfErr result (NoAtom
-        (pairs_in names.now.pairs) (kept_of kept.now)) }
+        (pairs_in names.now.pairs) (token_of token.now)) }
 {
-    match kept {
-        Kept::Leaf(found) => Ok(Some(leaf(alloc, *found)?)),
-        Kept::Set {
+    match token {
+        Token::Leaf(found) => Ok(Some(leaf(alloc, *found)?)),
+        Token::Set {
             letter,
             text,
             casei,
         } => Ok(Some(set_node(alloc, *letter, text, *casei)?)),
-        Kept::Numbered { naming, number, .. } => Ok(Some(named(*naming, None, *number))),
-        Kept::Refer(placed) => Ok(Some(reference(alloc, names, placed.reference, placed.at)?)),
-        Kept::Flags => Ok(Some(Expr::Empty)),
+        Token::Numbered { naming, number, .. } => Ok(Some(named(*naming, None, *number))),
+        Token::Refer(placed) => Ok(Some(reference(alloc, names, placed.reference, placed.at)?)),
+        Token::Flags => Ok(Some(Expr::Empty)),
         _ => Ok(None),
     }
 }

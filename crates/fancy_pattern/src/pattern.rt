@@ -25,7 +25,7 @@ use crate::reader::Reader;
 use crate::survey::Survey;
 use fancy_expr::expr::{Expr, ExprTree};
 use fancy_tokens::error::Fault;
-use fancy_tokens::kept::Placed;
+use fancy_tokens::tokens::Placed;
 use std::alloc::{AllocError, Global};
 use std::collections::BTreeSet;
 

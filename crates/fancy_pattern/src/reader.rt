@@ -5,10 +5,10 @@ ghost use Rattle.std.specs.Option.{option_map};
 ghost use Rattle.fancy_expr.specs.declared.expr.Expr as code;
 ghost use Rattle.fancy_expr.specs.Views.{tree_of};
 ghost use Rattle.fancy_pattern.specs.Grammar.{Names, is_at, is_branch_end, bar, closing, quantifier as quantifier_of, suffix, opening, class_open, class_text, class_close, gives_some, first_gives, node_of, Takes, SpellsClass, SpellsSuffix, SpellsAtom, SpellsOpened, SpellsBodies, SpellsPiece, SpellsBranch, SpellsBars, SpellsAlternatives};
-ghost use Rattle.fancy_pattern.specs.Faults.{Tells};
+ghost use Rattle.fancy_pattern.specs.Faults.{kind_at};
 ghost use Rattle.fancy_pattern.specs.Stuck.{is_end, is_calm, anything, Fails, FailsOpened, IsMisfit};
 ghost use Rattle.fancy_pattern.specs.Naming.{pairs_in};
-ghost use Rattle.fancy_tokens.specs.PatternViews.{kept_of, opening_of, reference_of, piece_text};
+ghost use Rattle.fancy_tokens.specs.PatternViews.{token_of, opening_of, reference_of, piece_text};
 ghost use Rattle.fancy_pattern.specs.Reading.{OneCharEach, point_of, next_token, Skips, ReadsTree, Adds, Pushes, PushesRow, SpellsSome, Boxes, SpellsLast, SpellsMore, SpellsRest, SpellsNode, Quantifies};
 ghost use Rattle.fancy_meaning.specs.Tree.{Tree, Literal};
 ghost use Rattle.fancy_tokens.specs.Tokens.{AbsentBar, Around, Group, If, Node};
@@ -24,8 +24,9 @@ use crate::node_stack::{
 use crate::nodes::{boxed_reference, node};
 use fancy_expr::expr::Expr;
 use fancy_tokens::error::{ErrorKind, Fault};
-use fancy_tokens::kept::{Kept, Placed};
-use fancy_tokens::tokens::{ClassPiece, Enclosing, Leaf, Opening, Quantifier, Reference, Suffix};
+use fancy_tokens::tokens::{
+    ClassPiece, Enclosing, Leaf, Opening, Placed, Quantifier, Reference, Suffix, Token,
+};
 use std::alloc::{AllocError, Global};
 
 /// What is left to read.
@@ -35,163 +36,166 @@ pub struct Reader<'r, 'a> {
     pub rest: &'r [Placed<'a>],
 }
 
-fn is_bar(kept: &Kept<'_>) -> bool
-    ensures { result ≡ gives_some (bar (kept_of kept.now)) }
+fn is_bar(token: &Token<'_>) -> bool
+    ensures { result ≡ gives_some (bar (token_of token.now)) }
 {
-    match kept {
-        Kept::Bar => true,
+    match token {
+        Token::Bar => true,
         _ => false,
     }
 }
 
-fn is_close(kept: &Kept<'_>) -> bool
-    ensures { result ≡ gives_some (closing (kept_of kept.now)) }
+fn is_close(token: &Token<'_>) -> bool
+    ensures { result ≡ gives_some (closing (token_of token.now)) }
 {
-    match kept {
-        Kept::Close => true,
+    match token {
+        Token::Close => true,
         _ => false,
     }
 }
 
-fn is_class_close(kept: &Kept<'_>) -> bool
-    ensures { result ≡ gives_some (class_close (kept_of kept.now)) }
+fn is_class_close(token: &Token<'_>) -> bool
+    ensures { result ≡ gives_some (class_close (token_of token.now)) }
 {
-    match kept {
-        Kept::ClassClose => true,
+    match token {
+        Token::ClassClose => true,
         _ => false,
     }
 }
 
-fn as_opening<'a>(kept: &Kept<'a>) -> Option<Opening<'a>>
-    ensures { option_map opening_of result ≡ opening (kept_of kept.now) }
+fn as_opening<'a>(token: &Token<'a>) -> Option<Opening<'a>>
+    ensures { option_map opening_of result ≡ opening (token_of token.now) }
 {
-    match kept {
-        Kept::Enclosing(enclosing) => Some(Opening::Enclosing(*enclosing)),
-        Kept::Group(number) => Some(Opening::Group {
+    match token {
+        Token::Enclosing(enclosing) => Some(Opening::Enclosing(*enclosing)),
+        Token::Group(number) => Some(Opening::Group {
             number: *number,
             name: None,
         }),
-        Kept::Open(placed) => Some(placed.opening),
+        Token::Open(placed) => Some(placed.opening),
         _ => None,
     }
 }
 
-/// What stands around alternatives, where it is kept in a few bytes.
-fn as_enclosing(kept: &Kept<'_>) -> Option<Enclosing>
-    ensures { IfSome result (λ e. opening (kept_of kept.now) ≡ Some (Around e)) }
+/// What stands around alternatives, where that is behind no pointer.
+fn as_enclosing(token: &Token<'_>) -> Option<Enclosing>
+    ensures { IfSome result (λ e. opening (token_of token.now) ≡ Some (Around e)) }
 {
-    match kept {
-        Kept::Enclosing(enclosing) => Some(*enclosing),
+    match token {
+        Token::Enclosing(enclosing) => Some(*enclosing),
         _ => None,
     }
 }
 
 /// The number of a group without a name.
-fn as_group(kept: &Kept<'_>) -> Option<usize>
-    ensures { IfSome result (λ n. opening (kept_of kept.now) ≡ Some (Group n None)) }
+fn as_group(token: &Token<'_>) -> Option<usize>
+    ensures { IfSome result (λ n. opening (token_of token.now) ≡ Some (Group n None)) }
 {
-    match kept {
-        Kept::Group(number) => Some(*number),
+    match token {
+        Token::Group(number) => Some(*number),
         _ => None,
     }
 }
 
-fn as_class_open(kept: &Kept<'_>) -> Option<bool>
-    ensures { result ≡ class_open (kept_of kept.now) }
+fn as_class_open(token: &Token<'_>) -> Option<bool>
+    ensures { result ≡ class_open (token_of token.now) }
 {
-    match kept {
-        Kept::ClassOpen { casei } => Some(*casei),
+    match token {
+        Token::ClassOpen { casei } => Some(*casei),
         _ => None,
     }
 }
 
-fn as_class_piece<'a>(kept: &Kept<'a>) -> Option<ClassPiece<'a>>
-    ensures { option_map piece_text result ≡ class_text (kept_of kept.now) }
+fn as_class_piece<'a>(token: &Token<'a>) -> Option<ClassPiece<'a>>
+    ensures { option_map piece_text result ≡ class_text (token_of token.now) }
 {
-    match kept {
-        Kept::ClassChar(c) => Some(ClassPiece::Char(*c)),
-        Kept::ClassEscaped(c) => Some(ClassPiece::Escaped(*c)),
-        Kept::ClassCode(c) => Some(ClassPiece::Code(*c)),
-        Kept::ClassSet { letter, text } => Some(ClassPiece::Set {
+    match token {
+        Token::ClassChar(c) => Some(ClassPiece::Char(*c)),
+        Token::ClassEscaped(c) => Some(ClassPiece::Escaped(*c)),
+        Token::ClassCode(c) => Some(ClassPiece::Code(*c)),
+        Token::ClassSet { letter, text } => Some(ClassPiece::Set {
             letter: *letter,
             text,
         }),
-        Kept::ClassHexDigits { negated } => Some(ClassPiece::HexDigits { negated: *negated }),
-        Kept::ClassBackspace => Some(ClassPiece::Backspace),
-        Kept::ClassEscape => Some(ClassPiece::Escape),
+        Token::ClassHexDigits { negated } => Some(ClassPiece::HexDigits { negated: *negated }),
+        Token::ClassBackspace => Some(ClassPiece::Backspace),
+        Token::ClassEscape => Some(ClassPiece::Escape),
         _ => None,
     }
 }
 
-fn as_quantifier(kept: &Kept<'_>) -> Option<(Quantifier, bool)>
-    ensures { result ≡ quantifier_of (kept_of kept.now) }
+fn as_quantifier(token: &Token<'_>) -> Option<(Quantifier, bool)>
+    ensures { result ≡ quantifier_of (token_of token.now) }
 {
-    match kept {
-        Kept::Star { greedy } => Some((Quantifier::Star, *greedy)),
-        Kept::Plus { greedy } => Some((Quantifier::Plus, *greedy)),
-        Kept::Question { greedy } => Some((Quantifier::Question, *greedy)),
-        Kept::Counts { lo, hi, greedy } => Some((Quantifier::Counts { lo: *lo, hi: *hi }, *greedy)),
+    match token {
+        Token::Star { greedy } => Some((Quantifier::Star, *greedy)),
+        Token::Plus { greedy } => Some((Quantifier::Plus, *greedy)),
+        Token::Question { greedy } => Some((Quantifier::Question, *greedy)),
+        Token::Counts { lo, hi, greedy } => Some((
+            Quantifier::Counts { lo: *lo, hi: *hi },
+            *greedy,
+        )),
         _ => None,
     }
 }
 
-fn as_suffix(kept: &Kept<'_>) -> Option<Suffix>
-    ensures { result ≡ suffix (kept_of kept.now) }
+fn as_suffix(token: &Token<'_>) -> Option<Suffix>
+    ensures { result ≡ suffix (token_of token.now) }
 {
-    match kept {
-        Kept::Plus { .. } => Some(Suffix::Possessive),
-        Kept::Question { .. } => Some(Suffix::Turned),
+    match token {
+        Token::Plus { .. } => Some(Suffix::Possessive),
+        Token::Question { .. } => Some(Suffix::Turned),
         _ => None,
     }
 }
 
 /// The character of a literal, and whether it is folded.
-fn as_literal(kept: &Kept<'_>) -> Option<(char, bool)>
-    ensures { IfSome result (λ p. kept_of kept.now ≡ Node (Literal p.0 p.1)) }
+fn as_literal(token: &Token<'_>) -> Option<(char, bool)>
+    ensures { IfSome result (λ p. token_of token.now ≡ Node (Literal p.0 p.1)) }
 {
-    match kept {
-        Kept::Leaf(Leaf::Literal { val, casei }) => Some((*val, *casei)),
+    match token {
+        Token::Leaf(Leaf::Literal { val, casei }) => Some((*val, *casei)),
         _ => None,
     }
 }
 
 /// The kind of the fault where this token cannot stand.
-fn kind_of(kept: &Kept<'_>, kind: ErrorKind) -> ErrorKind
-    ensures { Tells (kept_of kept.now) result }
+fn kind_at(token: &Token<'_>) -> ErrorKind
+    ensures { result ≡ kind_at (token_of token.now) }
 {
-    match kept {
-        Kept::Broken(found) => *found,
-        _ => kind,
+    match token {
+        Token::Broken(kind) => *kind,
+        _ => ErrorKind::TargetNotRepeatable,
     }
 }
 
 /// The byte where a condition begins that asks for a group, which may be missing; else 0.
-fn place_of(kept: &Kept<'_>) -> usize {
-    match kept {
-        Kept::Open(placed) => placed.at,
+fn place_of(token: &Token<'_>) -> usize {
+    match token {
+        Token::Open(placed) => placed.at,
         _ => 0,
     }
 }
 
 impl<'r, 'a> Reader<'r, 'a> {
-    fn next(&self) -> Option<&'r Kept<'a>>
-        ensures value { option_map (λ k. kept_of k.now) result ≡ next_token (point_of self.now) }
+    fn next(&self) -> Option<&'r Token<'a>>
+        ensures value { option_map (λ k. token_of k.now) result ≡ next_token (point_of self.now) }
         ensures some { IfSome result (λ k. 0 < length self.now.rest.now) }
     {
         match self.rest.first() {
-            Some(placed) => Some(&placed.kept),
+            Some(placed) => Some(&placed.token),
             None => None,
         }
     }
 
     /// The next token cannot stand here; at the end a parenthesis is not closed.
-    fn misfit(&self, kind: ErrorKind) -> Failure
+    fn misfit(&self) -> Failure
         ensures { IsMisfit (point_of self.now) result }
     {
         match self.rest.first() {
             Some(placed) => Failure::Fault(Fault {
                 left: placed.left,
-                kind: kind_of(&placed.kept, kind),
+                kind: kind_at(&placed.token),
             }),
             None => Failure::Fault(Fault {
                 left: 0,
@@ -203,7 +207,7 @@ impl<'r, 'a> Reader<'r, 'a> {
     /// The byte where the next token begins, if it asks for a group.
     fn place(&self) -> usize {
         match self.rest.first() {
-            Some(placed) => place_of(&placed.kept),
+            Some(placed) => place_of(&placed.token),
             None => 0,
         }
     }
@@ -221,7 +225,7 @@ impl<'r, 'a> Reader<'r, 'a> {
         ensures some { result ≡ true → 0 < length self.now.rest.now }
     {
         match self.next() {
-            Some(kept) => is_bar(kept),
+            Some(token) => is_bar(token),
             None => false,
         }
     }
@@ -231,7 +235,7 @@ impl<'r, 'a> Reader<'r, 'a> {
         ensures some { result ≡ true → 0 < length self.now.rest.now }
     {
         match self.next() {
-            Some(kept) => is_close(kept),
+            Some(token) => is_close(token),
             None => false,
         }
     }
@@ -240,7 +244,7 @@ impl<'r, 'a> Reader<'r, 'a> {
         ensures { result ≡ is_branch_end (point_of self.now) }
     {
         match self.next() {
-            Some(kept) => is_bar(kept) || is_close(kept),
+            Some(token) => is_bar(token) || is_close(token),
             None => true,
         }
     }
@@ -254,7 +258,7 @@ impl<'r, 'a> Reader<'r, 'a> {
             ≡ length self.old.rest.now) }
     {
         if !self.is_at_close() {
-            return Err(self.misfit(ErrorKind::UnclosedOpenParen));
+            return Err(self.misfit());
         }
         self.skip();
         Ok(())
@@ -269,7 +273,7 @@ impl<'r, 'a> Reader<'r, 'a> {
         if self.rest.is_empty() {
             Ok(())
         } else {
-            Err(self.misfit(ErrorKind::UnopenedCloseParen))
+            Err(self.misfit())
         }
     }
 
@@ -435,7 +439,7 @@ impl<'r, 'a> Reader<'r, 'a> {
             ≤ length self.old.rest.now) }
     {
         if !is_last_repeatable(nodes) {
-            return Err(self.misfit(ErrorKind::TargetNotRepeatable));
+            return Err(self.misfit());
         }
         self.skip();
         let suffix = self.take_suffix();
@@ -524,7 +528,7 @@ impl<'r, 'a> Reader<'r, 'a> {
         ensures { result ≡ is_at quantifier_of (point_of self.now) }
     {
         match self.next() {
-            Some(kept) => as_quantifier(kept).is_some(),
+            Some(token) => as_quantifier(token).is_some(),
             None => false,
         }
     }
@@ -605,7 +609,7 @@ impl<'r, 'a> Reader<'r, 'a> {
         self.read_other(names, nodes)
     }
 
-    /// An atom of one token, a class, or what begins with an opening that is kept behind a pointer.
+    /// An atom of one token, a class, or what begins with an opening that is behind a pointer.
     #[inline(never)]
     #[cycle(reading)]
     fn read_other(&mut self, names: &GroupNames, nodes: &mut Vec<Expr>) -> Result<(), Failure>
@@ -638,16 +642,16 @@ impl<'r, 'a> Reader<'r, 'a> {
         ensures shorter { IfOk result (λ u. length self.new.rest.now + 1
             ≤ length self.old.rest.now) }
     {
-        let Some(kept) = self.next() else {
-            return Err(self.misfit(ErrorKind::TargetNotRepeatable));
+        let Some(token) = self.next() else {
+            return Err(self.misfit());
         };
-        match node(self.alloc, names, kept)? {
+        match node(self.alloc, names, token)? {
             Some(found) => {
                 nodes.push(found)?;
                 self.skip();
                 Ok(())
             }
-            None => Err(self.misfit(ErrorKind::TargetNotRepeatable)),
+            None => Err(self.misfit()),
         }
     }
 
@@ -664,7 +668,7 @@ impl<'r, 'a> Reader<'r, 'a> {
         ensures some { result ≡ true → 0 < length self.now.rest.now }
     {
         match self.next() {
-            Some(kept) => is_class_close(kept),
+            Some(token) => is_class_close(token),
             None => false,
         }
     }
@@ -686,7 +690,7 @@ impl<'r, 'a> Reader<'r, 'a> {
             self.skip();
         }
         if !self.is_at_class_close() {
-            return Err(self.misfit(ErrorKind::InvalidClass));
+            return Err(self.misfit());
         }
         self.skip();
         text.push(']')?;

@@ -17,9 +17,9 @@ use Rattle.fancy_tokens.specs.declared.tokens.Quantifier.TheVariants as quantifi
 use Rattle.fancy_tokens.specs.declared.tokens.Token as code_token
 use Rattle.fancy_tokens.specs.declared.tokens.Token.TheVariants as token
 use Rattle.fancy_tokens.specs.declared.tokens.Item as code_item
-use Rattle.fancy_tokens.specs.declared.kept.Kept as code_kept
-use Rattle.fancy_tokens.specs.declared.kept.Kept.TheVariants as kept
-use Rattle.fancy_tokens.specs.declared.kept.Placed as code_placed
+use Rattle.fancy_tokens.specs.declared.tokens.Placed as code_placed
+use Rattle.fancy_tokens.specs.declared.tokens.Unboxed as code_unboxed
+use Rattle.fancy_tokens.specs.declared.tokens.Unboxed.TheVariants as unboxed
 use Rattle.fancy_tokens.specs.Tokens as plain
 
 abbrev pub hex_class : Bool → List ℕ
@@ -98,48 +98,38 @@ piece_text piece.Escape = codes "\\x1B"
 
 abbrev pub token_of : code_token.Token → plain.Token
 token_of (token.Leaf l) = plain.Node (leaf_of l)
-token_of (token.Set letter text casei) = plain.Node (tree.Delegate (encode_utf8_all (92 ∷ letter ∷ text.now)) casei)
-token_of (token.Refer r) = plain.Refer (reference_of r)
+token_of (token.Set casei letter text) = plain.Node (tree.Delegate (encode_utf8_all (92 ∷ letter ∷ text.now)) casei)
+token_of (token.Numbered naming number left) =
+    plain.Refer (record { naming = naming; target = plain.Number number; level = None; left = left })
+token_of (token.Refer r) = plain.Refer (reference_of r.value.reference)
 token_of token.Flags = plain.FlagsItem
-token_of (token.Open o) = plain.Open (opening_of o)
+token_of (token.Enclosing e) = plain.Open (plain.Around e)
+token_of (token.Group number) = plain.Open (plain.Group number None)
+token_of (token.Open o) = plain.Open (opening_of o.value.opening)
 token_of token.Bar = plain.Bar
 token_of token.Close = plain.Close
-token_of (token.Quantifier q greedy) = plain.Quantified q greedy
+token_of (token.Star greedy) = plain.Quantified quantifier.Star greedy
+token_of (token.Plus greedy) = plain.Quantified quantifier.Plus greedy
+token_of (token.Question greedy) = plain.Quantified quantifier.Question greedy
+token_of (token.Counts greedy lo hi) = plain.Quantified (quantifier.Counts lo hi) greedy
 token_of (token.ClassOpen casei) = plain.ClassOpen casei
-token_of (token.ClassPiece p) = plain.ClassText (piece_text p)
+token_of (token.ClassChar c) = plain.ClassText (piece_text (piece.Char c))
+token_of (token.ClassEscaped c) = plain.ClassText (piece_text (piece.Escaped c))
+token_of (token.ClassCode c) = plain.ClassText (piece_text (piece.Code c))
+token_of (token.ClassSet letter text) = plain.ClassText (piece_text (piece.Set letter text))
+token_of (token.ClassHexDigits negated) = plain.ClassText (piece_text (piece.HexDigits negated))
+token_of token.ClassBackspace = plain.ClassText (piece_text piece.Backspace)
+token_of token.ClassEscape = plain.ClassText (piece_text piece.Escape)
 token_of token.ClassClose = plain.ClassClose
 token_of (token.Broken kind) = plain.Broken kind
 
-abbrev pub item_of : code_item.Item → plain.Item
-item_of i = record { token = token_of i.token; flags = i.flags }
-
--- a token as it is kept
-abbrev pub kept_of : code_kept.Kept → plain.Token
-kept_of (kept.Leaf l) = plain.Node (leaf_of l)
-kept_of (kept.Set casei letter text) = plain.Node (tree.Delegate (encode_utf8_all (92 ∷ letter ∷ text.now)) casei)
-kept_of (kept.Numbered naming number left) =
-    plain.Refer (record { naming = naming; target = plain.Number number; level = None; left = left })
-kept_of (kept.Refer r) = plain.Refer (reference_of r.value.reference)
-kept_of kept.Flags = plain.FlagsItem
-kept_of (kept.Enclosing e) = plain.Open (plain.Around e)
-kept_of (kept.Group number) = plain.Open (plain.Group number None)
-kept_of (kept.Open o) = plain.Open (opening_of o.value.opening)
-kept_of kept.Bar = plain.Bar
-kept_of kept.Close = plain.Close
-kept_of (kept.Star greedy) = plain.Quantified quantifier.Star greedy
-kept_of (kept.Plus greedy) = plain.Quantified quantifier.Plus greedy
-kept_of (kept.Question greedy) = plain.Quantified quantifier.Question greedy
-kept_of (kept.Counts greedy lo hi) = plain.Quantified (quantifier.Counts lo hi) greedy
-kept_of (kept.ClassOpen casei) = plain.ClassOpen casei
-kept_of (kept.ClassChar c) = plain.ClassText (piece_text (piece.Char c))
-kept_of (kept.ClassEscaped c) = plain.ClassText (piece_text (piece.Escaped c))
-kept_of (kept.ClassCode c) = plain.ClassText (piece_text (piece.Code c))
-kept_of (kept.ClassSet letter text) = plain.ClassText (piece_text (piece.Set letter text))
-kept_of (kept.ClassHexDigits negated) = plain.ClassText (piece_text (piece.HexDigits negated))
-kept_of kept.ClassBackspace = plain.ClassText (piece_text piece.Backspace)
-kept_of kept.ClassEscape = plain.ClassText (piece_text piece.Escape)
-kept_of kept.ClassClose = plain.ClassClose
-kept_of (kept.Broken kind) = plain.Broken kind
-
 abbrev pub placed_of : code_placed.Placed → plain.Placed
-placed_of p = record { left = p.left; token = kept_of p.kept }
+placed_of p = record { left = p.left; token = token_of p.token }
+
+abbrev pub unboxed_of : code_unboxed.Unboxed → plain.Token
+unboxed_of (unboxed.Token t) = token_of t
+unboxed_of (unboxed.Refer r) = plain.Refer (reference_of r)
+unboxed_of (unboxed.Open o) = plain.Open (opening_of o)
+
+abbrev pub item_of : code_item.Item → plain.Item
+item_of i = record { token = unboxed_of i.token; flags = i.flags }

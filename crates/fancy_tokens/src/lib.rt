@@ -3,7 +3,6 @@
 
 pub mod error;
 pub mod flags;
-pub mod kept;
 pub mod lexing;
 pub mod nesting;
 pub mod tokens;

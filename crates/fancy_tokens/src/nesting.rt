@@ -1,15 +1,14 @@
 //! How groups stand in one another, the flags that hold behind them, and how many were opened.
 
 ghost use Rattle.std.specs.Prelude.{◌≡◌, ◌≤◌, IfOk, MatchResult};
-ghost use Rattle.fancy_tokens.specs.PatternViews.{kept_of, opening_of, token_of};
+ghost use Rattle.fancy_tokens.specs.PatternViews.{opening_of, token_of, unboxed_of};
 ghost use Rattle.fancy_tokens.specs.Tokens.{Open};
 ghost use Rattle.fancy_tokens.specs.Nesting.{has_two, Enters, Leaves, GoesBy, opened_by, group_opened_by};
 
 use crate::error::{ErrorKind, Fault};
 use crate::flags::Flags;
-use crate::kept::Kept;
 use crate::lexing::Lexing;
-use crate::tokens::{Opening, Token};
+use crate::tokens::{Opening, Token, Unboxed};
 use std::alloc::AllocError;
 
 /// So many groups may stand in one another.
@@ -70,26 +69,26 @@ fn leave(outer: &mut Vec<Flags>, behind: Lexing, left: usize) -> Result<Lexing, 
 pub fn behind_token(
     outer: &mut Vec<Flags>,
     flags: Flags,
-    kept: &Kept<'_>,
+    token: &Token<'_>,
     behind: Lexing,
     left: usize,
 ) -> Result<Result<Lexing, Fault>, AllocError>
-    ensures { IfOk result (λ r. GoesBy (kept_of kept.now) outer.old.items flags
+    ensures { IfOk result (λ r. GoesBy (token_of token.now) outer.old.items flags
         behind left r outer.new.items) }
 {
-    match kept {
-        Kept::Enclosing(enclosing) => {
+    match token {
+        Token::Enclosing(enclosing) => {
             behind_opening(outer, flags, Opening::Enclosing(*enclosing), behind, left)
         }
-        Kept::Group(number) => {
+        Token::Group(number) => {
             let opening = Opening::Group {
                 number: *number,
                 name: None,
             };
             behind_opening(outer, flags, opening, behind, left)
         }
-        Kept::Open(placed) => behind_opening(outer, flags, placed.opening, behind, left),
-        Kept::Close => Ok(leave(outer, behind, left)),
+        Token::Open(placed) => behind_opening(outer, flags, placed.opening, behind, left),
+        Token::Close => Ok(leave(outer, behind, left)),
         _ => Ok(Ok(behind)),
     }
 }
@@ -111,12 +110,14 @@ fn behind_opening(
 }
 
 /// How many groups a token opens.
-pub fn opened_by(token: Token<'_>) -> usize
-    ensures value { result ≡ opened_by (token_of token.entry) }
+pub fn opened_by(token: &Unboxed<'_>) -> usize
+    ensures value { result ≡ opened_by (unboxed_of token.now) }
     ensures one { result ≤ 1 }
 {
     match token {
-        Token::Open(opening) => group_opened_by(opening),
+        Unboxed::Token(Token::Group(_)) => 1,
+        Unboxed::Token(Token::Open(placed)) => group_opened_by(placed.opening),
+        Unboxed::Open(opening) => group_opened_by(*opening),
         _ => 0,
     }
 }

@@ -111,50 +111,112 @@ pub enum ClassPiece<'a> {
     Escape,
 }
 
-/// A token.
-#[derive(Clone, Copy)]
+/// What names a group, and the byte where its token begins.
+#[derive(Drop)]
+pub struct PlacedReference<'a> {
+    pub reference: Reference<'a>,
+    pub at: usize,
+}
+
+/// What an opening parenthesis begins, and the byte where that stands.
+#[derive(Drop)]
+pub struct PlacedOpening<'a> {
+    pub opening: Opening<'a>,
+    pub at: usize,
+}
+
+/// A token, in 24 bytes: what takes more is behind a pointer.
+#[derive(Drop)]
 pub enum Token<'a> {
     Leaf(Leaf),
     /// A set of characters: a backslash, this letter and this text.
     Set {
+        casei: bool,
         letter: char,
         text: &'a [char],
-        casei: bool,
     },
-    Refer(Reference<'a>),
+    /// What names a group by its number, and no level.
+    Numbered {
+        naming: Naming,
+        number: usize,
+        left: usize,
+    },
+    /// What names a group otherwise.
+    Refer(Box<PlacedReference<'a>>),
     /// A flags item, `(?i)`.
     Flags,
-    Open(Opening<'a>),
+    Enclosing(Enclosing),
+    /// A group without a name, by its number.
+    Group(usize),
+    /// Any other opening parenthesis.
+    Open(Box<PlacedOpening<'a>>),
     Bar,
     Close,
-    Quantifier {
-        quantifier: Quantifier,
+    Star {
         greedy: bool,
+    },
+    Plus {
+        greedy: bool,
+    },
+    Question {
+        greedy: bool,
+    },
+    Counts {
+        greedy: bool,
+        lo: usize,
+        hi: usize,
     },
     /// The `[` of a class.
     ClassOpen {
         casei: bool,
     },
-    ClassPiece(ClassPiece<'a>),
+    ClassChar(char),
+    ClassEscaped(char),
+    ClassCode(char),
+    ClassSet {
+        letter: char,
+        text: &'a [char],
+    },
+    ClassHexDigits {
+        negated: bool,
+    },
+    ClassBackspace,
+    ClassEscape,
     /// The `]` of a class.
     ClassClose,
     /// What cannot be read; the last token.
     Broken(ErrorKind),
 }
 
-/// A token, and the flags that hold behind it.
-#[derive(Clone, Copy)]
-pub struct Item<'a> {
+/// A token, and where it is.
+#[derive(Drop)]
+pub struct Placed<'a> {
+    /// How many characters of the pattern begin where it does.
+    pub left: usize,
     pub token: Token<'a>,
+}
+
+/// A token as it is found: what takes more than 24 bytes is not behind a pointer yet.
+#[derive(Drop)]
+pub enum Unboxed<'a> {
+    Token(Token<'a>),
+    Refer(Reference<'a>),
+    Open(Opening<'a>),
+}
+
+/// A token as it is found, and the flags that hold behind it.
+#[derive(Drop)]
+pub struct Item<'a> {
+    pub token: Unboxed<'a>,
     pub flags: Flags,
 }
 
 impl<'a> Item<'a> {
     ghost use Rattle.fancy_tokens.specs.Tokens.{item};
-    ghost use Rattle.fancy_tokens.specs.PatternViews.{item_of, token_of};
+    ghost use Rattle.fancy_tokens.specs.PatternViews.{item_of, unboxed_of};
 
-    pub fn new(flags: Flags, token: Token<'a>) -> Item<'a>
-        ensures { item_of result ≡ item flags (token_of token.entry) }
+    pub fn new(flags: Flags, token: Unboxed<'a>) -> Item<'a>
+        ensures { item_of result ≡ item flags (unboxed_of token.entry) }
     {
         Item { token, flags }
     }

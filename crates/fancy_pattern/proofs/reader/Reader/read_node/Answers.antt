@@ -3,7 +3,7 @@ use Rattle.std.proofs.lemmas.Result.{err_from_is_err_and}
 use Rattle.fancy_expr.specs.Views.{tree_of}
 use Rattle.fancy_pattern.specs.Grammar.{node_of}
 use Rattle.fancy_pattern.specs.Naming.{pairs_in}
-use Rattle.fancy_tokens.specs.PatternViews.{kept_of}
+use Rattle.fancy_tokens.specs.PatternViews.{token_of}
 use Rattle.fancy_pattern.specs.Reading.{point_of, OneCharEach}
 use Rattle.fancy_pattern.proofs.Points.{takes_next}
 use Rattle.fancy_pattern.proofs.WhereStuck.{no_atom, unnamed_atom, given_by, nothing_given}
@@ -18,7 +18,7 @@ returns-in_default-clause-fails c =
 pub returns-in_err-found-clause-fails : goal.returns-in_err-found-clause-fails
 returns-in_err-found-clause-fails c =
     let p = err_from_is_err_and c.from_residual.result c.from_residual.ensures.1 in
-    rw (p.1, p.2) (unnamed_atom (pairs_in c.args.names.now.pairs) (point_of c.args.self.now) (kept_of c.in-Some.kept.now) _ (sym c.in-Some.ensures.value)
+    rw (p.1, p.2) (unnamed_atom (pairs_in c.args.names.now.pairs) (point_of c.args.self.now) (token_of c.in-Some.token.now) _ (sym c.in-Some.ensures.value)
     c.in_err-found.ensures.fails)
 
 pub returns-in-None-clause-fails : goal.returns-in-None-clause-fails
@@ -26,7 +26,7 @@ returns-in-None-clause-fails c =
     let names = pairs_in c.args.names.now.pairs in
     let x = point_of c.args.self.now in
     no_atom names x c.misfit-in-None.result
-    (given_by (node_of names) x (kept_of c.in-Some.kept.now) (sym c.in-Some.ensures.value)
+    (given_by (node_of names) x (token_of c.in-Some.token.now) (sym c.in-Some.ensures.value)
     ∙ sym c.in_ok-found.ensures.made ∙ ap (option_map tree_of) c.in-None.is)
     c.misfit-in-None.ensures
 
@@ -44,7 +44,7 @@ returns-in_ok-push-in-Some-2-clause-pushes c =
       };
       spelled =
           takes_next (node_of names) (tree_of c.in-Some-2.found) c.args.self.now c.skip.new.self
-          (given_by (node_of names) x (kept_of c.in-Some.kept.now) (sym c.in-Some.ensures.value)
+          (given_by (node_of names) x (token_of c.in-Some.token.now) (sym c.in-Some.ensures.value)
           ∙ sym c.in_ok-found.ensures.made ∙ ap (option_map tree_of) c.in-Some-2.is)
           c.skip.ensures.skips;
     }
