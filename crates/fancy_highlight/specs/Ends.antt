@@ -2,7 +2,7 @@
 use Rattle.std.specs.Prelude.{◌-◌, ◌==◌, ◌&&◌, ◌||◌, ℕ, Bool, true, false, List, [], ◌∷◌, ◌++◌, Option, Some, None, chars, codes, if◌then◌else◌, is_some, nat_le, slice_range}
 use Rattle.fancy_meaning.specs.MatchState.{Span}
 use Rattle.fancy_matches.specs.Listing.{group_span}
-use Rattle.fancy_matches.specs.Regexes.{captures_text, numbers_in}
+use Rattle.fancy_matches.specs.Matchers.{captures_text, numbers_in}
 use Rattle.fancy_matches.specs.declared.found.Captures.{Captures}
 use Rattle.fancy_pattern.specs.Escape.{escaped}
 use Rattle.fancy_highlight.specs.declared.references.Took.{Took}

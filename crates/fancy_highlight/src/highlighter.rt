@@ -10,7 +10,7 @@ use crate::left_out::LeftOut;
 use crate::reader::read_grammar;
 use crate::run::Run;
 use crate::tokens::Highlights;
-use fancy_scanner::scanner::Scanner;
+use fancy_scanner::scanner::TreeScanner;
 use std::alloc::{AllocError, Global};
 use std::collections::BTreeMap;
 
@@ -19,7 +19,7 @@ use std::collections::BTreeMap;
 pub struct Highlighter {
     alloc: Global,
     grammar: Grammar,
-    scanner: Scanner,
+    scanner: TreeScanner,
     /// The trees of ends that refer back, by their patterns.
     ends: BTreeMap<String, usize>,
 }

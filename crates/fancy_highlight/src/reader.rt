@@ -8,7 +8,7 @@ use crate::patterns::{check_sample, compile};
 use crate::references::{Took, end_of_while, refers};
 use crate::values::{Part, kind_of};
 use fancy_regex::Error;
-use fancy_scanner::scanner::Scanner;
+use fancy_scanner::scanner::TreeScanner;
 use serde_json::Value;
 use std::alloc::{AllocError, Global};
 use std::collections::BTreeMap;
@@ -26,7 +26,7 @@ pub(crate) struct Reader {
     /// The rules that are left out.
     left_out: Vec<LeftOut>,
     names: Vec<String>,
-    scanner: Scanner,
+    scanner: TreeScanner,
     /// How many trees the scanner has.
     trees: usize,
 }
@@ -39,7 +39,7 @@ impl Reader {
             labels: Vec::new(alloc),
             left_out: Vec::new(alloc),
             names: Vec::new(alloc),
-            scanner: Scanner::new(alloc),
+            scanner: TreeScanner::new(alloc),
             trees: 0,
         }
     }
@@ -385,7 +385,10 @@ impl Reader {
 }
 
 /// The rules in a text, as a grammar, and the scanner of its patterns.
-pub(crate) fn read_grammar(alloc: Global, text: &str) -> Result<(Grammar, Scanner), GrammarError> {
+pub(crate) fn read_grammar(
+    alloc: Global,
+    text: &str,
+) -> Result<(Grammar, TreeScanner), GrammarError> {
     let value = match Value::from_str(alloc, text) {
         Ok(value) => value,
         Err(error) if error.is_memory() => return Err(GrammarError::Memory),
@@ -406,7 +409,7 @@ pub(crate) fn read_grammar(alloc: Global, text: &str) -> Result<(Grammar, Scanne
     grammar_of(alloc, &part)
 }
 
-fn grammar_of(alloc: Global, part: &Part<'_>) -> Result<(Grammar, Scanner), GrammarError> {
+fn grammar_of(alloc: Global, part: &Part<'_>) -> Result<(Grammar, TreeScanner), GrammarError> {
     let mut reader = Reader::new(alloc);
     let name = reader.own_name(part)?;
     let patterns = reader.patterns(part, MOST_DEPTH)?;

@@ -1,7 +1,7 @@
 //! A text from match to match.
 
 ghost use Rattle.std.specs.Prelude.{◌≡◌, ◌≤◌, ◌<◌, IfOk, IsFalse, IsTrue, OnOk, length, suc};
-ghost use Rattle.fancy_matches.specs.Regexes.{span_of};
+ghost use Rattle.fancy_matches.specs.Matchers.{span_of};
 ghost use Rattle.fancy_highlight.specs.LeftOut.{AreReported};
 ghost use Rattle.fancy_highlight.specs.Tokens.{Covers};
 ghost use Rattle.fancy_scanner.specs.Scans.{text_of};
@@ -15,7 +15,7 @@ use crate::references::Took;
 use crate::tokens::Highlights;
 use crate::writer::Writer;
 use fancy_matches::found::Match;
-use fancy_scanner::scan_text::{ScanStep, ScanText, TreeMatch};
+use fancy_scanner::scan_text::{ScanStep, TreeMatch, TreeScan};
 use std::alloc::{AllocError, Global};
 use std::collections::BTreeMap;
 use std::mem;
@@ -25,7 +25,7 @@ use std::mem;
 pub(crate) struct Run<'g, 'r, 't> {
     alloc: Global,
     grammar: &'g Grammar,
-    scan: ScanText<'r, 't>,
+    scan: TreeScan<'r, 't>,
     /// The trees of ends that refer back, by their patterns.
     ends: &'r mut BTreeMap<String, usize>,
     writer: Writer<'t>,
@@ -75,7 +75,7 @@ impl<'g, 'r, 't> Run<'g, 'r, 't> {
     pub(crate) fn new(
         alloc: Global,
         grammar: &'g Grammar,
-        scan: ScanText<'r, 't>,
+        scan: TreeScan<'r, 't>,
         ends: &'r mut BTreeMap<String, usize>,
     ) -> Result<Run<'g, 'r, 't>, AllocError>
         ensures { IfOk result (λ run. run.writer.text.now ≡ text_of scan.entry) }

@@ -17,7 +17,7 @@ use Rattle.fancy_steps.specs.declared.search_limits.SearchLimit.TheVariants as s
 use Rattle.fancy_search.specs.Searches.{IsCompiledFrom}
 use Rattle.fancy_search.specs.declared.search.Compiled.{Compiled}
 use Rattle.fancy_matches.specs.Listing.{Standing, backtracks_for, options_at, steps_for}
-use Rattle.fancy_matches.specs.Regexes as engine
+use Rattle.fancy_matches.specs.Matchers as engine
 use Rattle.fancy_matches.proofs.Easy.{no_limit}
 use Rattle.fancy_replace.specs.Pieces.{as_limit}
 use Rattle.fancy_host.specs.declared.options.FancyOptions.{FancyOptions}

@@ -6,12 +6,12 @@ use Rattle.std.proofs.lemmas.List.{get_or_append_left, get_or-append-add}
 use Rattle.std.proofs.lemmas.List.Elements.{All-append, All-nil}
 use Rattle.std.proofs.lemmas.Option.{same_Some, slice_get-get_or}
 use Rattle.fancy_expr.specs.declared.error.RuntimeError.{RuntimeError}
-use Rattle.fancy_matches.specs.Regexes.{numbers_in}
+use Rattle.fancy_matches.specs.Matchers.{numbers_in}
 use Rattle.fancy_scanner.specs.Scanning.{AreEasyRuns, IsStoppedByDelegates, Rule, Scans, search_limit}
 use Rattle.fancy_scanner.specs.declared.scan_limit.ScanLimit.{ScanLimit}
 use Rattle.fancy_scanner.specs.declared.scan_limit.ScanLimit.TheVariants as limit
 use Rattle.fancy_scanner.specs.declared.scanner.Scan.{Scan}
-use Rattle.fancy_scanner.specs.declared.scanner.Scanner.{Scanner}
+use Rattle.fancy_scanner.specs.declared.scanner.TreeScanner.{TreeScanner}
 use Rattle.fancy_scanner.specs.declared.scanner.Stopped.{Stopped}
 use Rattle.fancy_scanner.proofs.Rules.{easy_by_delegates}
 use Rattle.fancy_host.specs.declared.options.FancyOptions.{FancyOptions}
@@ -136,7 +136,7 @@ module _ (rules : List Rule) (text : List ℕ) (easy : AreEasyRuns text rules) (
   writes_easy {groups} (rows_of.writes rows wide room comes stops) =
       (no_run _ (stops_code stops), quiet_rows (width_of groups) (three_at_least groups) groups refl rows wide (comes_quiet comes) _ room)
 
-pub scan_easy : (text : List ℕ) (o : FancyOptions) {groups from to : ℕ} {old new : List ℕ} {held : Option Scanner} {outcome : FancyOutcome} →
+pub scan_easy : (text : List ℕ) (o : FancyOptions) {groups from to : ℕ} {old new : List ℕ} {held : Option TreeScanner} {outcome : FancyOutcome} →
     ScansIn text o groups from old held to new outcome → IsNoLimitWhereAllEasy held text groups new outcome
 scan_easy text o (rows_of.unscanned unread) rules held easy small =
     let code = no_text_code unread in

@@ -13,7 +13,7 @@ use Rattle.std.proofs.MapsCrossing as maps
 use Rattle.fancy_search.proofs.ThreadsLaws.{compiled_sends, compiled_syncs, scratch_sends}
 use Rattle.fancy_matches.proofs.ThreadsLaws.{regex_sends}
 use Rattle.fancy_scanner.specs.contracts.scanner.ScanTree as ScanTree
-use Rattle.fancy_scanner.specs.contracts.scanner.Scanner as Scanner
+use Rattle.fancy_scanner.specs.contracts.scanner.TreeScanner as TreeScanner
 use Rattle.fancy_host.specs.Owned.{owned, owned_scanner}
 use Rattle.fancy_host.specs.contracts.searches.Searcher as Searcher
 use Rattle.fancy_host.specs.contracts.tree.CompiledTree as CompiledTree
@@ -30,7 +30,7 @@ searcher_sends = search (tree_sends, tree_syncs, scratch_sends, std.crosses, sen
 rule_sends : IsSend ScanTree.the_field.row
 rule_sends = search (regex_sends, std.crosses, sendable) depth 60 fits 20000
 
-scanner_sends : IsSend Scanner.the_row
+scanner_sends : IsSend TreeScanner.the_row
 scanner_sends = search (rule_sends, std.crosses, sendable) depth 60 fits 20000
 
 lies : (R : RattleType) → IsSend R → (p : Ptr) (x : R.Denot) → Keyless (lies_at R full_share p x)
@@ -41,6 +41,6 @@ pub owned_keyless : (alloc : Global) (at : Ptr) (searcher : Option (Searcher.the
 owned_keyless alloc at None = tt
 owned_keyless alloc at (Some x) = (lies Searcher.the_row searcher_sends at x, std.frees.frees alloc (raw (lone (Searcher.the_row).mir)) at)
 
-pub scanner_keyless : (alloc : Global) (at : Ptr) (scanner : Option (Scanner.the_row).Denot) → Keyless (owned_scanner alloc at scanner)
+pub scanner_keyless : (alloc : Global) (at : Ptr) (scanner : Option (TreeScanner.the_row).Denot) → Keyless (owned_scanner alloc at scanner)
 scanner_keyless alloc at None = tt
-scanner_keyless alloc at (Some x) = (lies Scanner.the_row scanner_sends at x, std.frees.frees alloc (raw (lone (Scanner.the_row).mir)) at)
+scanner_keyless alloc at (Some x) = (lies TreeScanner.the_row scanner_sends at x, std.frees.frees alloc (raw (lone (TreeScanner.the_row).mir)) at)

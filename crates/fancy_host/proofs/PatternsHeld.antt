@@ -16,7 +16,7 @@ use Rattle.fancy_search.specs.Searches.{input_of, options_fit, search_fits}
 use Rattle.fancy_search.specs.declared.search.SearchOptions.{SearchOptions}
 use Rattle.fancy_scanner.specs.Scanning.{IsScannerOf, IsTreeOf, Rule}
 use Rattle.fancy_scanner.specs.declared.scanner.ScanTree.{ScanTree}
-use Rattle.fancy_scanner.specs.declared.scanner.Scanner.{Scanner}
+use Rattle.fancy_scanner.specs.declared.scanner.TreeScanner.{TreeScanner}
 use Rattle.fancy_host.specs.declared.options.FancyOptions.{FancyOptions}
 use Rattle.fancy_host.specs.declared.outcome.FancyOutcome.{FancyOutcome}
 use Rattle.fancy_host.specs.Codes.{memory}
@@ -52,15 +52,15 @@ rule_so tree o text a k r b ea ek er eb =
     ap₂ (λ i p. record { input = i; options = p; limits = limits o }) (ap₂ (input_of tree) ea ek) (ap₂ (λ s l. options_for s l text) er eb)
 
 -- nothing, and a scanner without patterns
-pub same_as_none : (held : Option Scanner) (s : Scanner) → held ≡ None → ((text : List ℕ) → IsScannerOf [] text s) → HoldsSame held (Some s)
+pub same_as_none : (held : Option TreeScanner) (s : TreeScanner) → held ≡ None → ((text : List ℕ) → IsScannerOf [] text s) → HoldsSame held (Some s)
 same_as_none held s none empty rules text h = subst (λ rs. IsScannerOf rs text s) (sym (subst (IsHeldBy rules text) none h)) (empty text)
 
-pub same_as_held : (held : Option Scanner) (s : Scanner) → held ≡ Some s → HoldsSame held (Some s)
+pub same_as_held : (held : Option TreeScanner) (s : TreeScanner) → held ≡ Some s → HoldsSame held (Some s)
 same_as_held held s is rules text h = subst (IsHeldBy rules text) is h
 
-module _ (bytes : List ℕ) (o : FancyOptions) (s t : Option Scanner) (outcome : FancyOutcome) (x : ScanTree) (groups : ℕ)
+module _ (bytes : List ℕ) (o : FancyOptions) (s t : Option TreeScanner) (outcome : FancyOutcome) (x : ScanTree) (groups : ℕ)
     (rule : IsRuleFrom bytes o x groups) where
-  pub added_so : (before after : Scanner) → HoldsSame s (Some before) →
+  pub added_so : (before after : TreeScanner) → HoldsSame s (Some before) →
       ((text : List ℕ) (rules : List Rule) (r : Rule) → IsScannerOf rules text before → IsTreeOf r text x → IsScannerOf (rules ++ r ∷ []) text after) →
       t ≡ Some after → outcome ≡ compiled groups → Adds bytes o s t outcome
   added_so before after held ok is says =

@@ -7,7 +7,7 @@ use Rattle.fancy_meaning.specs.Answer.{span_numbers}
 use Rattle.fancy_meaning.specs.Numbers.{usize_max}
 use Rattle.fancy_steps.specs.Outcomes.{first_pair}
 use Rattle.fancy_matches.specs.Listing.{group_span}
-use Rattle.fancy_matches.specs.Regexes.{numbers_in}
+use Rattle.fancy_matches.specs.Matchers.{numbers_in}
 use Rattle.fancy_matches.specs.declared.found.Captures.{Captures}
 use Rattle.fancy_scanner.specs.Kept.{kept_captures, shown_whole}
 use Rattle.fancy_scanner.specs.Scanning.{Rule, Scans}

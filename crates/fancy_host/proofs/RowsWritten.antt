@@ -13,7 +13,7 @@ use Rattle.fancy_steps.specs.declared.search_limits.SearchLimit.{SearchLimit}
 use Rattle.fancy_search.specs.Searches.{HasSource, IsCompiledFrom}
 use Rattle.fancy_search.specs.declared.search.Compiled.{Compiled}
 use Rattle.fancy_matches.specs.Listing.{ComesTo, Standing, stays}
-use Rattle.fancy_matches.specs.Regexes.{StepsBy}
+use Rattle.fancy_matches.specs.Matchers.{StepsBy}
 use Rattle.fancy_matches.proofs.Lists.{comes_left, comes_more}
 use Rattle.fancy_host.specs.declared.outcome.FancyOutcome.{FancyOutcome}
 use Rattle.fancy_host.specs.declared.tree.CompiledTree.{CompiledTree}

@@ -18,7 +18,7 @@ use Rattle.std.proofs.lemmas.Bool.{false≢true}
 use Rattle.std.specs.contracts.alloc.Global as heap
 use Rattle.std.proofs.alloc.Global.TheLaws as heap_laws
 use Rattle.std.specs.contracts.impls.GlobalAllocator.TheImpl.{ghosts}
-use Rattle.fancy_scanner.specs.contracts.scanner.Scanner as scanner
+use Rattle.fancy_scanner.specs.contracts.scanner.TreeScanner as scanner
 use Rattle.fancy_host.specs.contracts.scanner.ScannerHandle as handle
 use Rattle.fancy_host.proofs.Values.{both, Loose}
 

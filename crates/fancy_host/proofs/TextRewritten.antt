@@ -16,7 +16,7 @@ use Rattle.fancy_search.specs.declared.search.Compiled.{Compiled}
 use Rattle.fancy_search.specs.Searches.{HasSource, IsCompiledFrom}
 use Rattle.fancy_steps.specs.Outcomes.{first_pair}
 use Rattle.fancy_matches.specs.Listing.{ComesTo, Standing, all_matches, at_start, in_turn, left, stays}
-use Rattle.fancy_matches.specs.Regexes.{StepsBy, captures_text, numbers_in, shown_captures, with_numbers}
+use Rattle.fancy_matches.specs.Matchers.{StepsBy, captures_text, numbers_in, shown_captures, with_numbers}
 use Rattle.fancy_matches.specs.declared.found.Captures.{Captures}
 use Rattle.fancy_matches.proofs.Lists.{all_most, comes_more}
 use Rattle.fancy_replace.specs.Pieces.{IsBelow, as_limit, pieces_between, rewrite, take_limit}

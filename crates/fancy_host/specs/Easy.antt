@@ -5,7 +5,7 @@ use Rattle.fancy_meaning.specs.Premises.{Input, plan}
 use Rattle.fancy_expr.specs.declared.error.RuntimeError.{RuntimeError}
 use Rattle.fancy_search.specs.Searches.{IsCompiledFrom}
 use Rattle.fancy_scanner.specs.Scanning.{AreEasyRuns, Rule}
-use Rattle.fancy_scanner.specs.declared.scanner.Scanner.{Scanner}
+use Rattle.fancy_scanner.specs.declared.scanner.TreeScanner.{TreeScanner}
 use Rattle.fancy_host.specs.declared.options.FancyOptions.{FancyOptions}
 use Rattle.fancy_host.specs.declared.outcome.FancyOutcome.{FancyOutcome}
 use Rattle.fancy_host.specs.declared.tree.CompiledTree.{CompiledTree}
@@ -34,7 +34,7 @@ AreNoLimitRows groups numbers count =
     (k : ℕ) (limit : RuntimeError) → k < count → slice_get numbers (k * width_of groups + 2) ≢ Some (code_of_run limit)
 
 -- The same of a scan: where each pattern is easy as a whole, and no limit of backtracks or instructions was asked of any.
-abbrev pub IsNoLimitWhereAllEasy : Option Scanner → List ℕ → ℕ → List ℕ → FancyOutcome → Type 0
+abbrev pub IsNoLimitWhereAllEasy : Option TreeScanner → List ℕ → ℕ → List ℕ → FancyOutcome → Type 0
 IsNoLimitWhereAllEasy held text groups rows outcome =
     (rules : List Rule) → IsHeldBy rules text held → AreEasyRuns text rules → length text < 2 ^ 60 →
     IsNoLimit outcome × AreNoLimitRows groups rows outcome.count

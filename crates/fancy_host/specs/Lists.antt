@@ -13,7 +13,7 @@ use Rattle.fancy_program.specs.Programs.{prog_of}
 use Rattle.fancy_search.specs.declared.search.Compiled.{Compiled}
 use Rattle.fancy_search.specs.Searches.{IsCompiledFrom, program}
 use Rattle.fancy_matches.specs.Listing.{ComesTo, Standing, begun_at, left}
-use Rattle.fancy_matches.specs.Regexes.{FailsAt}
+use Rattle.fancy_matches.specs.Matchers.{FailsAt}
 use Rattle.fancy_host.specs.declared.options.FancyOptions.{FancyOptions}
 use Rattle.fancy_host.specs.declared.outcome.FancyOutcome.{FancyOutcome}
 use Rattle.fancy_host.specs.declared.tree.CompiledTree.{CompiledTree}

@@ -7,7 +7,7 @@ use Rattle.std.specs.Coded.{coded_option}
 use Rattle.std.specs.Box.Ownership.{box_owns}
 use Rattle.std.specs.Global.{Global}
 use Rattle.std.specs.contracts.impls.GlobalAllocator.TheImpl.{ghosts}
-use Rattle.fancy_scanner.specs.contracts.scanner.Scanner as of_scanner
+use Rattle.fancy_scanner.specs.contracts.scanner.TreeScanner as of_scanner
 use Rattle.fancy_host.specs.contracts.searches.Searcher.{the_row}
 
 abbrev pub owned : Global → Ptr → Option the_row.Denot → Fml

@@ -9,12 +9,12 @@ use Rattle.fancy_expr.specs.declared.error.Error.{Error}
 use Rattle.fancy_expr.specs.declared.expr.ExprTree.{ExprTree}
 use Rattle.fancy_steps.specs.Outcomes.{first_pair}
 use Rattle.fancy_matches.specs.Listing.{group_span}
-use Rattle.fancy_matches.specs.Regexes.{numbers_in}
+use Rattle.fancy_matches.specs.Matchers.{numbers_in}
 use Rattle.fancy_scanner.specs.Scanning.{IsScannerOf, IsTreeOf, Rule, Scans}
 use Rattle.fancy_scanner.specs.declared.scanner.Scan.{Scan}
 use Rattle.fancy_scanner.specs.declared.scanner.ScanMatch.{ScanMatch}
 use Rattle.fancy_scanner.specs.declared.scanner.ScanTree.{ScanTree}
-use Rattle.fancy_scanner.specs.declared.scanner.Scanner.{Scanner}
+use Rattle.fancy_scanner.specs.declared.scanner.TreeScanner.{TreeScanner}
 use Rattle.fancy_scanner.specs.declared.scanner.Stopped.{Stopped}
 use Rattle.fancy_host.specs.declared.options.FancyOptions.{FancyOptions}
 use Rattle.fancy_host.specs.declared.outcome.FancyOutcome.{FancyOutcome}
@@ -29,16 +29,16 @@ abbrev pub rule_for : ExprTree → FancyOptions → List ℕ → Rule
 rule_for t o text = record { input = asked_of t o; options = listing o text; limits = limits o }
 
 -- the patterns of a scanner, or of nothing, are searched for in this text by these rules
-abbrev pub IsHeldBy : List Rule → List ℕ → Option Scanner → Type 0
+abbrev pub IsHeldBy : List Rule → List ℕ → Option TreeScanner → Type 0
 IsHeldBy rules text None = rules ≡ []
 IsHeldBy rules text (Some s) = IsScannerOf rules text s
 
 -- the other has the patterns of the one
-abbrev pub HoldsSame : Option Scanner → Option Scanner → Type 0
+abbrev pub HoldsSame : Option TreeScanner → Option TreeScanner → Type 0
 HoldsSame s t = (rules : List Rule) (text : List ℕ) → IsHeldBy rules text s → IsHeldBy rules text t
 
 -- and one more, after them, of this tree
-abbrev pub HoldsMore : ExprTree → FancyOptions → Option Scanner → Option Scanner → Type 0
+abbrev pub HoldsMore : ExprTree → FancyOptions → Option TreeScanner → Option TreeScanner → Type 0
 HoldsMore tree o s t = (rules : List Rule) (text : List ℕ) → IsHeldBy rules text s → IsHeldBy (rules ++ rule_for tree o text ∷ []) text t
 
 -- how many groups a tree has, with group 0
@@ -63,9 +63,9 @@ pub record IsRuleFrom (bytes : List ℕ) (o : FancyOptions) (x : ScanTree) (grou
   pub counts : groups ≡ groups_in tree
 
 -- what a scanner holds after a pattern was to be added, and the outcome
-pub data Adds (bytes : List ℕ) (o : FancyOptions) (s : Option Scanner) : Option Scanner → FancyOutcome → Type 0 where
-  keeps : {t : Option Scanner} {outcome : FancyOutcome} → FailsToRead bytes o outcome → HoldsSame s t → Adds bytes o s t outcome
-  holds : {t : Option Scanner} (tree : ExprTree) → IsTrue (has_size o) → IsUtf8 bytes → IsRead (pattern bytes) o tree →
+pub data Adds (bytes : List ℕ) (o : FancyOptions) (s : Option TreeScanner) : Option TreeScanner → FancyOutcome → Type 0 where
+  keeps : {t : Option TreeScanner} {outcome : FancyOutcome} → FailsToRead bytes o outcome → HoldsSame s t → Adds bytes o s t outcome
+  holds : {t : Option TreeScanner} (tree : ExprTree) → IsTrue (has_size o) → IsUtf8 bytes → IsRead (pattern bytes) o tree →
       ¬ ExceedsAnalysisLimit tree o → HoldsMore tree o s t → Adds bytes o s t (compiled (groups_in tree))
 
 -- ---- a row
@@ -126,7 +126,7 @@ module _ (rules : List Rule) (text : List ℕ) (groups : ℕ) where
         Writes from old to (over (numbers_of rows) old) (with_count (length rows) outcome)
 
 -- what is written by a scanner, or by nothing, in bytes that may be no text
-pub data ScansIn (text : List ℕ) (o : FancyOptions) (groups : ℕ) (from : ℕ) (old : List ℕ) (held : Option Scanner) :
+pub data ScansIn (text : List ℕ) (o : FancyOptions) (groups : ℕ) (from : ℕ) (old : List ℕ) (held : Option TreeScanner) :
     ℕ → List ℕ → FancyOutcome → Type 0 where
   unscanned : {outcome : FancyOutcome} → IsNoText text o outcome → ScansIn text o groups from old held from old outcome
   scanned : {to : ℕ} {new : List ℕ} {outcome : FancyOutcome} → IsTrue (has_size o) → IsUtf8 text →

@@ -35,7 +35,7 @@ ghost use Rattle.fancy_host.specs.Rewritten.{ReplacesIn};
 ghost use Rattle.fancy_host.specs.Scanned.{Adds, HoldsSame, ScansIn};
 ghost use Rattle.fancy_host.specs.Whether.{FindsAny};
 
-use fancy_scanner::scanner::Scanner;
+use fancy_scanner::scanner::TreeScanner;
 use messages::{write_explanation, write_message};
 use options::FancyOptions;
 use outcome::{FancyOutcome, MEMORY, NO_PROGRAM, write_name};
@@ -535,7 +535,7 @@ pub extern "C" fn fancy_scan(
         Err(outcome) => return outcome,
     };
     if !scanner.is_set {
-        return scan(&mut Scanner::new(alloc), text, pos, groups, rows);
+        return scan(&mut TreeScanner::new(alloc), text, pos, groups, rows);
     }
     let mut held = scanner.take(alloc).into_scanner();
     let outcome = scan(&mut held, text, pos, groups, rows);

@@ -9,7 +9,7 @@ ghost use Rattle.fancy_host.specs.Lists as lists;
 use crate::outcome::{ANALYSIS_LIMIT_EXCEEDED, FancyOutcome, MEMORY};
 use fancy_analysis::limit::is_analysis_within;
 use fancy_expr::expr::ExprTree;
-use fancy_matches::options::RegexOptions;
+use fancy_matches::options::MatcherOptions;
 use fancy_pattern::options::ParseOptions;
 use fancy_search::request::Request;
 use fancy_vm::vm::{RunOptions, SearchLimits};
@@ -214,7 +214,7 @@ impl FancyOptions {
     {
         let run = self.request().running();
         let backtrack_limit = self.backtracks();
-        let options = RegexOptions {
+        let options = MatcherOptions {
             run,
             backtrack_limit,
             limits: self.limits(),

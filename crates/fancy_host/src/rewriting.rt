@@ -2,7 +2,7 @@
 
 ghost use Rattle.std.specs.Prelude.{◌≡◌, ◌++◌, [], ℕ, IfOk, IsTrue, List, MatchResult, None, OnOk};
 ghost use Rattle.fancy_meaning.specs.Fits.{run_fits};
-ghost use Rattle.fancy_matches.specs.Regexes.{captures_text, numbers_in};
+ghost use Rattle.fancy_matches.specs.Matchers.{captures_text, numbers_in};
 ghost use Rattle.fancy_replace.specs.Outputs.{Grows, Holds};
 ghost use Rattle.fancy_replace.specs.Pieces.{as_limit};
 ghost use Rattle.fancy_search.specs.Searches.{HasSource, program};

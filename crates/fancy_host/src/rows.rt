@@ -2,7 +2,7 @@
 
 ghost use Rattle.std.specs.Prelude.{◌≡◌, ◌≤◌, [], ◌∷◌, ℕ, List, length};
 ghost use Rattle.fancy_steps.specs.Outcomes.{first_pair};
-ghost use Rattle.fancy_matches.specs.Regexes.{span_of};
+ghost use Rattle.fancy_matches.specs.Matchers.{span_of};
 ghost use Rattle.fancy_host.specs.Hosted.{over_from};
 ghost use Rattle.fancy_host.specs.Lists.{Form, all_groups, row_of, span_alone};
 

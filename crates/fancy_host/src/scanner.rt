@@ -2,11 +2,11 @@
 
 ghost use Rattle.std.specs.Prelude.{◌≡◌, IfErr, IfOk, None, Option, Some};
 ghost use Rattle.std.specs.Option.{IsSome, is_some};
-ghost use Rattle.fancy_scanner.specs.declared.scanner.Scanner.{Scanner};
+ghost use Rattle.fancy_scanner.specs.declared.scanner.TreeScanner.{TreeScanner};
 ghost use Rattle.fancy_host.specs.Owned.{owned_scanner, scanner_coded};
 
 use crate::loose::Loose;
-use fancy_scanner::scanner::Scanner;
+use fancy_scanner::scanner::TreeScanner;
 use std::alloc::{AllocError, Global};
 use std::marker::Model;
 use std::mem::replace;
@@ -17,7 +17,7 @@ use std::mem::replace;
 pub struct ScannerHandle {
     at: *mut u8,
     alloc: Global,
-    pub ghost scanner: { Option Scanner } by { scanner_coded },
+    pub ghost scanner: { Option TreeScanner } by { scanner_coded },
 }
 
 impl Model for ScannerHandle {
@@ -37,7 +37,7 @@ impl ScannerHandle {
         }
     }
 
-    fn of_loose(loose: Loose<Scanner, Global>) -> ScannerHandle
+    fn of_loose(loose: Loose<TreeScanner, Global>) -> ScannerHandle
         ensures { result.scanner ≡ Some loose.value }
     {
         let Loose { at, alloc } = loose;
@@ -47,13 +47,13 @@ impl ScannerHandle {
         }
     }
 
-    fn into_loose(self) -> Loose<Scanner, Global>
+    fn into_loose(self) -> Loose<TreeScanner, Global>
         requires { IsSome self.scanner }
         ensures { self.scanner ≡ Some result.value }
     {
         let ScannerHandle { at, alloc } = self;
         Loose {
-            at: at as *mut Scanner,
+            at: at as *mut TreeScanner,
             alloc,
         }
     }
@@ -85,7 +85,7 @@ impl FancyScanner {
         }
     }
 
-    pub fn of(scanner: Box<Scanner>) -> FancyScanner
+    pub fn of(scanner: Box<TreeScanner>) -> FancyScanner
         ensures { result.handle.scanner ≡ Some scanner.value }
     {
         FancyScanner {
@@ -94,7 +94,7 @@ impl FancyScanner {
         }
     }
 
-    pub fn into_scanner(self) -> Box<Scanner>
+    pub fn into_scanner(self) -> Box<TreeScanner>
         requires { IsSome self.handle.scanner }
         ensures { self.handle.scanner ≡ Some result.value }
     {
@@ -110,7 +110,7 @@ impl FancyScanner {
     }
 
     /// The scanner that it held, or a new one where it held nothing. After an error it holds what it held.
-    pub fn take_or_new(&mut self, alloc: Global) -> Result<Box<Scanner>, AllocError>
+    pub fn take_or_new(&mut self, alloc: Global) -> Result<Box<TreeScanner>, AllocError>
         ensures held { IfOk result (λ scanner.
             HoldsSame self.old.handle.scanner (Some scanner.value)) }
         ensures kept { IfErr result (λ _. self.new.handle.scanner ≡ self.old.handle.scanner) }
@@ -118,7 +118,7 @@ impl FancyScanner {
         if self.is_set {
             Ok(self.take(alloc).into_scanner())
         } else {
-            Ok(Box::new(alloc, Scanner::new(alloc))?)
+            Ok(Box::new(alloc, TreeScanner::new(alloc))?)
         }
     }
 

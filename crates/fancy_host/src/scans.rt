@@ -4,7 +4,7 @@ ghost use Rattle.std.specs.Prelude.{◌≡◌, ◌≤◌, ◌+◌, ◌*◌, ◌+
 ghost use Rattle.fancy_meaning.specs.Answer.{span_numbers};
 ghost use Rattle.fancy_meaning.specs.Numbers.{usize_max};
 ghost use Rattle.fancy_matches.specs.Listing.{begun_at, group_span};
-ghost use Rattle.fancy_matches.specs.Regexes.{numbers_in};
+ghost use Rattle.fancy_matches.specs.Matchers.{numbers_in};
 ghost use Rattle.fancy_search.specs.Requests as requests;
 ghost use Rattle.fancy_search.specs.Searches.{search_fits};
 ghost use Rattle.fancy_steps.specs.Tasks.{options_of as run_options_of};
@@ -24,8 +24,8 @@ use crate::writing::write_from;
 use fancy_characters::places::is_place;
 use fancy_matches::found::Captures;
 use fancy_pattern::pattern::parse_tree;
-use fancy_scanner::scan_text::ScanText;
-use fancy_scanner::scanner::{ScanTree, Scanner, Stopped};
+use fancy_scanner::scan_text::TreeScan;
+use fancy_scanner::scanner::{ScanTree, Stopped, TreeScanner};
 use fancy_search::search::SearchOptions;
 use fancy_vm::vm::RunOptions;
 use std::alloc::Global;
@@ -176,7 +176,7 @@ fn write_row(
 /// Writes the rows of the matches from this place on, while there is room, and says how many. The scan then
 /// stands after them.
 fn write_rows(
-    scan: &mut ScanText<'_, '_>,
+    scan: &mut TreeScan<'_, '_>,
     pos: &mut usize,
     groups: usize,
     room: &mut [usize],
@@ -214,7 +214,7 @@ fn write_rows(
 
 /// Writes the rows of the matches of these patterns in a text, from a place on, while there is room.
 pub fn scan(
-    scanner: &mut Scanner,
+    scanner: &mut TreeScanner,
     text: &str,
     pos: &mut usize,
     groups: usize,

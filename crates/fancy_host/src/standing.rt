@@ -1,7 +1,7 @@
 //! Where a host's list of matches stands.
 
 ghost use Rattle.std.specs.Prelude.{◌≡◌};
-ghost use Rattle.fancy_matches.specs.Regexes as matches;
+ghost use Rattle.fancy_matches.specs.Matchers as matches;
 ghost use Rattle.fancy_host.specs.Lists as lists;
 
 use fancy_matches::standing::Standing;

@@ -6,7 +6,7 @@ ghost use Rattle.fancy_steps.specs.SearchLimits.{StaysWithin};
 ghost use Rattle.fancy_search.specs.Scratches.{Suits, limits_of, passed_of};
 ghost use Rattle.fancy_steps.specs.Tasks.{options_of as run_options_of, task_of};
 ghost use Rattle.fancy_search.specs.Searches.{HasSource, program};
-ghost use Rattle.fancy_matches.specs.Regexes.{standing_of};
+ghost use Rattle.fancy_matches.specs.Matchers.{standing_of};
 ghost use Rattle.fancy_replace.specs.Pieces.{as_limit};
 ghost use Rattle.fancy_replace.specs.Reading.{groups_named};
 

@@ -8,41 +8,41 @@ use Rattle.fancy_meaning.specs.Options as plain
 use Rattle.fancy_meaning.specs.Premises.{Input, IsText, plan}
 use Rattle.fancy_expr.specs.declared.error.Error.{Error}
 use Rattle.fancy_matches.specs.Listing.{ComesTo, Standing, at_start, left, stays}
-use Rattle.fancy_matches.specs.Regexes.{Counts, GivesMatch, IsNoLimitWhereEasy, IsRegexOf, IsSame, Iteration, compiled_of, options_in}
+use Rattle.fancy_matches.specs.Matchers.{Counts, GivesMatch, IsNoLimitWhereEasy, IsRegexOf, IsSame, Iteration, compiled_of, options_in}
 use Rattle.fancy_matches.specs.declared.found.Match.{Match}
-use Rattle.fancy_matches.specs.declared.regexes.Regex.{Regex}
+use Rattle.fancy_matches.specs.declared.matcher.Matcher.{Matcher}
 use Rattle.fancy_matches.proofs.Easy.{easy_of_same}
 use Rattle.fancy_matches.proofs.Lists.{all_most, comes_left, comes_more}
 use Rattle.fancy_matches.proofs.Stepping.{of_same, same_twice}
 
--- by so many matches the list of a regex came to where it stands
+-- by so many matches the list of a matcher came to where it stands
 pub record Counted (i : Input) (text : List ℕ) (o : plain.RunOptions) (count : ℕ) (s : Standing) : Type 0 where
   pub gone : List (List ℕ)
   pub counts : length gone ≡ count
   pub comes : ComesTo (plan i) text o at_start gone s
 
-pub record HasCounted (r : Regex) (text : List ℕ) (count : ℕ) (s : Iteration) : Type 0 where
-  pub same : IsSame r s.regex.now
+pub record HasCounted (r : Matcher) (text : List ℕ) (count : ℕ) (s : Iteration) : Type 0 where
+  pub same : IsSame r s.matcher.now
   pub within : s.text ≡ text
   pub so_far : (i : Input) (o : plain.RunOptions) → IsRegexOf i text o r → Counted i text o count s.standing
 
-pub none_counted : (r : Regex) (text : List ℕ) (s : Iteration) → s.regex.now ≡ r → s.text ≡ text → s.standing ≡ at_start →
+pub none_counted : (r : Matcher) (text : List ℕ) (s : Iteration) → s.matcher.now ≡ r → s.text ≡ text → s.standing ≡ at_start →
     HasCounted r text 0 s
 none_counted r text s is within first = record {
-  same = (ap compiled_of is, ap (λ (x : Regex). x.options) is);
+  same = (ap compiled_of is, ap (λ (x : Matcher). x.options) is);
   within = within;
   so_far = λ i o h. record { gone = []; counts = refl; comes = subst (λ t. ComesTo (plan i) text o at_start [] t) (sym first) stays };
 }
 
-module _ (r : Regex) (text : List ℕ) (is : IsText text) (count : ℕ) (s t : Iteration) (so_far : HasCounted r text count s)
+module _ (r : Matcher) (text : List ℕ) (is : IsText text) (count : ℕ) (s t : Iteration) (so_far : HasCounted r text count s)
     (item : Option (Result Match Error))
-    (gives : (i : Input) (o : plain.RunOptions) → IsRegexOf i s.text o s.regex.now → GivesMatch i s.text o s.standing item t.standing) where
+    (gives : (i : Input) (o : plain.RunOptions) → IsRegexOf i s.text o s.matcher.now → GivesMatch i s.text o s.standing item t.standing) where
   gives_so : (x : Option (Result Match Error)) → item ≡ x → (i : Input) (o : plain.RunOptions) → IsRegexOf i text o r →
       GivesMatch i text o s.standing x t.standing
   gives_so x was i o h =
       subst (λ y. GivesMatch i text o s.standing y t.standing) was
       (subst (λ u. GivesMatch i u o s.standing item t.standing) so_far.within
-      (gives i o (subst (λ u. IsRegexOf i u o s.regex.now) (sym so_far.within) (of_same r s.regex.now i text o so_far.same h))))
+      (gives i o (subst (λ u. IsRegexOf i u o s.matcher.now) (sym so_far.within) (of_same r s.matcher.now i text o so_far.same h))))
 
   module _ (m : Match) (was : item ≡ Some (Ok m)) where
     next : (i : Input) (o : plain.RunOptions) → IsRegexOf i text o r → Counted i text o (suc count) t.standing
@@ -55,9 +55,9 @@ module _ (r : Regex) (text : List ℕ) (is : IsText text) (count : ℕ) (s t : I
           comes = comes_more (plan i) text o before.comes one.comes;
         }
 
-    pub goes_on : (n : ℕ) → n ≡ suc count → t.text ≡ s.text → IsSame s.regex.now t.regex.now → HasCounted r text n t
+    pub goes_on : (n : ℕ) → n ≡ suc count → t.text ≡ s.text → IsSame s.matcher.now t.matcher.now → HasCounted r text n t
     goes_on n more within same = record {
-      same = same_twice r s.regex.now t.regex.now so_far.same same;
+      same = same_twice r s.matcher.now t.matcher.now so_far.same same;
       within = within ∙ so_far.within;
       so_far = λ i o h. subst (λ k. Counted i text o k t.standing) (sym more) (next i o h);
     }
@@ -91,5 +91,5 @@ module _ (r : Regex) (text : List ℕ) (is : IsText text) (count : ℕ) (s t : I
         fails = fails.fails;
       }
 
-  pub count_easy : (e : Error) → IsNoLimitWhereEasy s.regex.now s.text e → IsNoLimitWhereEasy r text e
-  count_easy e h = easy_of_same r s.regex.now text e so_far.same (subst (λ u. IsNoLimitWhereEasy s.regex.now u e) so_far.within h)
+  pub count_easy : (e : Error) → IsNoLimitWhereEasy s.matcher.now s.text e → IsNoLimitWhereEasy r text e
+  count_easy e h = easy_of_same r s.matcher.now text e so_far.same (subst (λ u. IsNoLimitWhereEasy s.matcher.now u e) so_far.within h)

@@ -14,9 +14,9 @@ use Rattle.fancy_expr.specs.declared.error.RuntimeError.TheVariants as limit
 use Rattle.fancy_vm.specs.Bounds.{IsBelowBound}
 use Rattle.fancy_search.specs.Searches.{Bounds, IsCompiledFrom}
 use Rattle.fancy_matches.specs.Listing.{backtracks_for, steps_for}
-use Rattle.fancy_matches.specs.Regexes.{IsNoLimit, IsNoLimitWhereEasy, IsSame, PromisesSo, compiled_of}
-use Rattle.fancy_matches.specs.declared.options.RegexOptions.{RegexOptions}
-use Rattle.fancy_matches.specs.declared.regexes.Regex.{Regex}
+use Rattle.fancy_matches.specs.Matchers.{IsNoLimit, IsNoLimitWhereEasy, IsSame, PromisesSo, compiled_of}
+use Rattle.fancy_matches.specs.declared.options.MatcherOptions.{MatcherOptions}
+use Rattle.fancy_matches.specs.declared.matcher.Matcher.{Matcher}
 
 -- ---- a text has at most one start more than bytes
 
@@ -74,9 +74,9 @@ module _ (i : Input) (text : List ℕ) (o : plain.RunOptions) (small : length te
   no_limit (error.TreeFault at) easy bounds = tt
   no_limit error.NestLimitExceeded easy bounds = tt
 
--- ---- a search of a regex
+-- ---- a search of a matcher
 
-module _ (r : Regex) (text : List ℕ) (o : plain.RunOptions)
+module _ (r : Matcher) (text : List ℕ) (o : plain.RunOptions)
     (backtracks : o.backtrack_limit ≡ backtracks_for r.options.backtrack_limit text) (steps : o.step_limit ≡ steps_for r.options.run.step_limit text) where
   pub easy_error : (e : Error) → ((i : Input) → IsCompiledFrom i (compiled_of r) → Bounds i text o (Err e)) → IsNoLimitWhereEasy r text e
   easy_error e bounds i from easy none small =
@@ -87,9 +87,9 @@ module _ (r : Regex) (text : List ℕ) (o : plain.RunOptions)
   easy_search Says (Ok found) promise = tt
   easy_search Says (Err e) promise = easy_error e (λ i from. (promise i from).1)
 
--- ---- a regex of the same tree, with the same options
+-- ---- a matcher of the same tree, with the same options
 
-pub easy_of_same : (r s : Regex) (text : List ℕ) (e : Error) → IsSame r s → IsNoLimitWhereEasy s text e → IsNoLimitWhereEasy r text e
+pub easy_of_same : (r s : Matcher) (text : List ℕ) (e : Error) → IsSame r s → IsNoLimitWhereEasy s text e → IsNoLimitWhereEasy r text e
 easy_of_same r s text e same h i from easy none small =
     h i (subst (IsCompiledFrom i) (sym same.0) from) easy
-    (ap (λ (o : RegexOptions). o.backtrack_limit) same.1 ∙ none.0, ap (λ (o : RegexOptions). o.run.step_limit) same.1 ∙ none.1) small
+    (ap (λ (o : MatcherOptions). o.backtrack_limit) same.1 ∙ none.0, ap (λ (o : MatcherOptions). o.run.step_limit) same.1 ∙ none.1) small

@@ -1,4 +1,4 @@
--- A search of a regex: which options it may have, and that it answers as is promised.
+-- A search of a matcher: which options it may have, and that it answers as is promised.
 use Rattle.std.proofs.Common.{IfSome, ◌≡◌, ◌≤◌, ℕ, true, List, [], length, Option, Some, None, Ok, is_some, option_map, refl, sym, ap, subst}
 use Rattle.std.proofs.Math.Logic.{∥∥₁_elim}
 use Rattle.std.proofs.Props.{props}
@@ -19,7 +19,7 @@ use Rattle.fancy_search.specs.declared.search.Compiled.{Compiled}
 use Rattle.fancy_search.specs.Searches.{HasSource, IsCompiledFrom, Promises, PromisesPair, program}
 use Rattle.fancy_program.proofs.FitsLaws.{run_place}
 use Rattle.fancy_matches.specs.Listing.{AreSpans, begun_at, options_for}
-use Rattle.fancy_matches.specs.Regexes.{shown_match, with_numbers, with_span}
+use Rattle.fancy_matches.specs.Matchers.{shown_match, with_numbers, with_span}
 use Rattle.fancy_matches.specs.declared.found.Match.{Match}
 use Rattle.fancy_matches.proofs.Lists.{AreNumbers, answer_sound, numbers_found, spans_of_pairs}
 

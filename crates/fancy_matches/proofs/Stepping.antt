@@ -21,9 +21,9 @@ use Rattle.fancy_search.specs.declared.search.Compiled.{Compiled}
 use Rattle.fancy_expr.specs.declared.error.Error.{Error}
 use Rattle.fancy_laws.proofs.Moves.{is_place_parts}
 use Rattle.fancy_matches.specs.Listing.{ComesTo, Standing, after, by_match, ended, is_listed, options_at, options_for, past_match, stays}
-use Rattle.fancy_matches.specs.Regexes.{ComesBy, EndsOn, GivesBy, IsNoLimitWhereEasy, IsRegexOf, IsSame, Shows, StepsBy, compiled_of, left_of, options_in}
-use Rattle.fancy_matches.specs.declared.options.RegexOptions.{RegexOptions}
-use Rattle.fancy_matches.specs.declared.regexes.Regex.{Regex}
+use Rattle.fancy_matches.specs.Matchers.{ComesBy, EndsOn, GivesBy, IsNoLimitWhereEasy, IsRegexOf, IsSame, Shows, StepsBy, compiled_of, left_of, options_in}
+use Rattle.fancy_matches.specs.declared.options.MatcherOptions.{MatcherOptions}
+use Rattle.fancy_matches.specs.declared.matcher.Matcher.{Matcher}
 use Rattle.fancy_matches.proofs.Easy.{easy_error}
 use Rattle.fancy_matches.proofs.Lists.{comes_left, comes_more, comes_on, ended_at, finds_none, is_found, next_on, no_place_ends}
 use Rattle.fancy_matches.proofs.Searching.{fits_at}
@@ -156,19 +156,19 @@ pub none_at_end : {A B : Type 0} (show : A → B) (seen : List ℕ → B) (c : C
 none_at_end show seen c text is o from to goes no_place i of =
     let none = ended_at (plan i) text o is to no_place in (comes_left (plan i) text o is (goes.comes i of) ∙ none, none)
 
--- ---- a step of a regex
+-- ---- a step of a matcher
 
-pub of_same : (r s : Regex) (i : Input) (text : List ℕ) (o : plain.RunOptions) → IsSame r s → IsRegexOf i text o r → IsRegexOf i text o s
+pub of_same : (r s : Matcher) (i : Input) (text : List ℕ) (o : plain.RunOptions) → IsSame r s → IsRegexOf i text o r → IsRegexOf i text o s
 of_same r s i text o same h = record {
   compiled = subst (IsCompiledFrom i) (sym same.0) h.compiled;
-  options = ap (λ (a : RegexOptions). options_for (run_options_of a.run) a.backtrack_limit text) same.1 ∙ h.options;
+  options = ap (λ (a : MatcherOptions). options_for (run_options_of a.run) a.backtrack_limit text) same.1 ∙ h.options;
 }
 
-pub same_twice : (r s t : Regex) → IsSame r s → IsSame s t → IsSame r t
+pub same_twice : (r s t : Matcher) → IsSame r s → IsSame s t → IsSame r t
 same_twice r s t a b = (b.0 ∙ a.0, b.1 ∙ a.1)
 
 -- what its searches for the next match came to
-module _ {A B : Type 0} (show : A → B) (seen : List ℕ → B) (r : Regex) (text : List ℕ) (is : IsText text) (here : plain.RunOptions)
+module _ {A B : Type 0} (show : A → B) (seen : List ℕ → B) (r : Matcher) (text : List ℕ) (is : IsText text) (here : plain.RunOptions)
     (asked : here ≡ options_in r text) (from to : Standing) (result : Result (Option A) Error) (k : Compiled) (this : k ≡ compiled_of r)
     (steps : (i : Input) → IsCompiledFrom i k → StepsBy i text here show seen from result to) where
   steps_of : (i : Input) → IsCompiledFrom i (compiled_of r) → StepsBy i text here show seen from result to

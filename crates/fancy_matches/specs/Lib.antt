@@ -1,2 +1,2 @@
 pub mod Listing
-pub mod Regexes
+pub mod Matchers

@@ -1,12 +1,18 @@
 //! A match, and the groups of one.
 
-ghost use Rattle.std.specs.Prelude.{◌≡◌, ◌≤◌, IfOk, IfSome, length, option_map, slice_index_or, slice_range};
+ghost use Rattle.std.specs.Prelude.{◌≡◌, ◌≤◌, ◌-◌, ◌==◌, IfOk, IfSome, length, nat_eq, option_map, slice_index_or};
+ghost use Rattle.std.specs.Cmp.Rules.{comparing};
+ghost use Rattle.std.specs.Ordering.{eq_of_both, on};
+ghost use Rattle.std.specs.Str.{bytes_eq};
+ghost use Rattle.std.proofs.Common.{rules};
 ghost use Rattle.fancy_meaning.specs.Numbers.{usize_max};
 ghost use Rattle.fancy_meaning.specs.Premises.{IsSpan};
 ghost use Rattle.fancy_steps.specs.Outcomes.{first_pair};
 ghost use Rattle.fancy_matches.specs.Listing.{AreSpans, group_span};
 
 use std::alloc::{AllocError, Global};
+use std::fmt;
+use std::ops::Range;
 
 /// A match: a part of a text, with its place. Positions are in bytes of the text, from 0.
 #[derive(Clone, Copy)]
@@ -18,7 +24,7 @@ pub struct Match<'t> {
 }
 
 impl<'t> Match<'t> {
-    ghost use Rattle.fancy_matches.specs.Regexes.{span_of, text_of};
+    ghost use Rattle.fancy_matches.specs.Matchers.{part_of, span_of};
 
     /// The byte where the match begins.
     pub fn start(&self) -> usize
@@ -34,12 +40,80 @@ impl<'t> Match<'t> {
         self.end
     }
 
+    /// How many bytes the match has.
+    pub fn len(&self) -> usize
+        ensures { result ≡ (span_of self.now).1 - (span_of self.now).0 }
+    {
+        self.end - self.start
+    }
+
+    /// Whether the match is empty.
+    pub fn is_empty(&self) -> bool
+        ensures { result ≡ ((span_of self.now).0 == (span_of self.now).1) }
+    {
+        self.start == self.end
+    }
+
+    /// The bytes of the match, from `start` to `end`.
+    pub fn range(&self) -> Range<usize>
+        ensures start { result.start ≡ (span_of self.now).0 }
+        ensures end { result.end ≡ (span_of self.now).1 }
+    {
+        self.start..self.end
+    }
+
     /// The part of the text that matched.
     pub fn as_str(&self) -> &'t str
-        ensures { result.now
-            ≡ slice_range (text_of self.now) (span_of self.now).0 (span_of self.now).1 }
+        ensures { result.now ≡ part_of self.now }
     {
         &self.text[self.start..self.end]
+    }
+}
+
+/// Two matches are equal if they begin at the same byte and have the same text.
+impl<'t> PartialEq for Match<'t> {
+    ghost use Rattle.fancy_matches.specs.Matchers.{part_of, span_of};
+
+    ghost eq = { eq_of_both (on (λ m. (span_of m).0) nat_eq) (on part_of bytes_eq) };
+
+    ghost laws = { Prim.search (comparing, rules) };
+
+    fn eq(&self, other: &Match<'t>) -> bool {
+        self.start() == other.start() && self.as_str() == other.as_str()
+    }
+}
+
+impl<'t> Eq for Match<'t> {
+    ghost laws = { Prim.search (comparing, rules) };
+}
+
+impl<'t> From<Match<'t>> for &'t str {
+    ghost use Rattle.fancy_matches.specs.Matchers.{part_of};
+
+    ghost from_gives = { λ m part. part.now ≡ part_of m };
+
+    fn from(found: Match<'t>) -> &'t str {
+        found.as_str()
+    }
+}
+
+impl<'t> From<Match<'t>> for Range<usize> {
+    ghost use Rattle.fancy_matches.specs.Matchers.{span_of};
+
+    ghost from_gives = { λ m range. (range.start ≡ (span_of m).0) × (range.end ≡ (span_of m).1) };
+
+    fn from(found: Match<'t>) -> Range<usize> {
+        found.range()
+    }
+}
+
+impl fmt::Debug for Match<'_> {
+    fn fmt<W: fmt::Write>(&self, f: &mut fmt::Formatter<W>) -> fmt::Result {
+        f.debug_struct("Match")
+            .field("start", &self.start())
+            .field("end", &self.end())
+            .field("string", &self.as_str())
+            .finish()
     }
 }
 
@@ -63,7 +137,7 @@ impl Drop for Captures<'_> {
 }
 
 impl<'t> Captures<'t> {
-    ghost use Rattle.fancy_matches.specs.Regexes.{captures_text, numbers_in, shown_captures, span_of, text_of};
+    ghost use Rattle.fancy_matches.specs.Matchers.{captures_text, numbers_in, shown_captures, span_of, text_of};
 
     /// The number at this index; `usize::MAX` if there is none.
     fn number(&self, index: usize) -> usize

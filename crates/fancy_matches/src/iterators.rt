@@ -4,23 +4,23 @@ ghost use Rattle.std.specs.Prelude.{◌≡◌, ◌-◌, length, suc};
 ghost use Rattle.std.specs.Iterator.{at_most};
 
 use crate::found::{Captures, Match};
-use crate::regexes::Regex;
+use crate::matcher::Matcher;
 use crate::standing::Standing;
 use fancy_expr::error::Error;
 
-/// The matches of a text from left to right, each with its groups; `Regex::captures_iter` makes it.
+/// The matches of a text from left to right, each with its groups; `Matcher::captures_iter` makes it.
 ///
 /// The next search begins where the last match ended, or one character further if that match was empty; then `\G` fails
 /// there. An empty match directly after another match is left out. After an error there are no more items.
 #[derive(Drop)]
 pub struct CaptureMatches<'r, 't> {
-    pub(crate) regex: &'r mut Regex,
+    pub(crate) matcher: &'r mut Matcher,
     pub(crate) text: &'t str,
     pub(crate) standing: Standing,
 }
 
 impl<'r, 't> Iterator for CaptureMatches<'r, 't> {
-    ghost use Rattle.fancy_matches.specs.Regexes.{NextCaptures};
+    ghost use Rattle.fancy_matches.specs.Matchers.{NextCaptures};
 
     type Item = Result<Captures<'t>, Error>;
 
@@ -29,21 +29,21 @@ impl<'r, 't> Iterator for CaptureMatches<'r, 't> {
     ghost remaining = { λ s. at_most (suc (length s.text.now) - s.standing.pos) };
 
     fn next(&mut self) -> Option<Result<Captures<'t>, Error>> {
-        self.regex.next_captures(self.text, &mut self.standing)
+        self.matcher.next_captures(self.text, &mut self.standing)
     }
 }
 
-/// The matches of a text from left to right, without their groups; `Regex::find_iter` makes it. They are the matches of
+/// The matches of a text from left to right, without their groups; `Matcher::find_iter` makes it. They are the matches of
 /// `CaptureMatches`. After an error there are no more items.
 #[derive(Drop)]
 pub struct Matches<'r, 't> {
-    pub(crate) regex: &'r mut Regex,
+    pub(crate) matcher: &'r mut Matcher,
     pub(crate) text: &'t str,
     pub(crate) standing: Standing,
 }
 
 impl<'r, 't> Iterator for Matches<'r, 't> {
-    ghost use Rattle.fancy_matches.specs.Regexes.{NextMatch};
+    ghost use Rattle.fancy_matches.specs.Matchers.{NextMatch};
 
     type Item = Result<Match<'t>, Error>;
 
@@ -52,6 +52,6 @@ impl<'r, 't> Iterator for Matches<'r, 't> {
     ghost remaining = { λ s. at_most (suc (length s.text.now) - s.standing.pos) };
 
     fn next(&mut self) -> Option<Result<Match<'t>, Error>> {
-        self.regex.next_match(self.text, &mut self.standing)
+        self.matcher.next_match(self.text, &mut self.standing)
     }
 }

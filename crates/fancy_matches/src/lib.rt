@@ -4,7 +4,7 @@
 pub mod count;
 pub mod found;
 pub mod iterators;
+pub mod matcher;
 pub mod options;
-pub mod regexes;
 pub mod searches;
 pub mod standing;

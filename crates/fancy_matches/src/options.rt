@@ -1,4 +1,4 @@
-//! The options of the searches of a regex.
+//! The options of the searches of a matcher.
 
 ghost use Rattle.std.specs.Prelude.{◌≡◌};
 ghost use Rattle.fancy_steps.specs.Tasks.{options_of as run_options_of};
@@ -6,9 +6,9 @@ ghost use Rattle.fancy_matches.specs.Listing as list;
 
 use fancy_vm::vm::{RunOptions, SearchLimits};
 
-/// The options of the searches of a regex.
+/// The options of the searches of a matcher.
 #[derive(Clone, Copy, Debug)]
-pub struct RegexOptions {
+pub struct MatcherOptions {
     /// The options of all searches. Each search sets for itself where it begins, whether it is continued, and its limit of
     /// backtracks. A `step_limit` of `u64::MAX` means that none is set: then it is 100,000,000, and eight more for each byte
     /// of the text and for its end.
@@ -20,7 +20,7 @@ pub struct RegexOptions {
     pub limits: SearchLimits,
 }
 
-impl RegexOptions {
+impl MatcherOptions {
     /// How often a search of this text may backtrack to a branch.
     fn backtracks_for(&self, text: &str) -> usize
         ensures { result ≡ list.backtracks_for self.now.backtrack_limit text.now }

@@ -9,7 +9,7 @@ ghost use Rattle.fancy_steps.specs.Tasks.{options_of as run_options_of, task_of}
 ghost use Rattle.fancy_steps.specs.Outcomes.{first_pair};
 ghost use Rattle.fancy_search.specs.Scratches.{Suits, limits_of, passed_of};
 ghost use Rattle.fancy_search.specs.Searches.{HasSource, IsCompiledFrom, program};
-ghost use Rattle.fancy_matches.specs.Regexes.{EndsOn, Shows, StepsBy, StepsToMatch, numbers_in, shown_captures, shown_match, span_of, standing_of, with_numbers, with_span};
+ghost use Rattle.fancy_matches.specs.Matchers.{EndsOn, Shows, StepsBy, StepsToMatch, numbers_in, shown_captures, shown_match, span_of, standing_of, with_numbers, with_span};
 
 use crate::found::{Captures, Match};
 use crate::standing::Standing;

@@ -17,7 +17,7 @@ pub struct Standing {
 }
 
 impl Standing {
-    ghost use Rattle.fancy_matches.specs.Regexes.{standing_of};
+    ghost use Rattle.fancy_matches.specs.Matchers.{standing_of};
 
     /// A list before its first match.
     pub fn first() -> Standing

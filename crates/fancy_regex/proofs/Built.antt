@@ -10,9 +10,9 @@ use Rattle.fancy_steps.specs.declared.search_limits.SearchLimit.TheVariants as l
 use Rattle.fancy_steps.specs.declared.search_limits.SearchLimits.{SearchLimits}
 use Rattle.fancy_search.specs.Searches.{IsCompiledFrom, IsNestedOver, IsRefusedAs}
 use Rattle.fancy_matches.specs.Listing.{options_for}
-use Rattle.fancy_matches.specs.Regexes as engine
-use Rattle.fancy_matches.specs.declared.options.RegexOptions as engine_options
-use Rattle.fancy_matches.specs.declared.regexes.Regex as engine_regex
+use Rattle.fancy_matches.specs.Matchers as engine
+use Rattle.fancy_matches.specs.declared.options.MatcherOptions as engine_options
+use Rattle.fancy_matches.specs.declared.matcher.Matcher as engine_regex
 use Rattle.fancy_pattern.specs.declared.error.PatternError.{PatternError}
 use Rattle.fancy_pattern.specs.declared.error.PatternError.TheVariants as of_parser
 use Rattle.fancy_pattern.specs.Spelling.{IsError}
@@ -27,17 +27,17 @@ use Rattle.fancy_regex.specs.declared.options.RegexOptions.{RegexOptions}
 use Rattle.fancy_regex.specs.declared.regexes.Regex.{Regex}
 
 -- a regex with limits inside easy parts is made as it was without them
-pub limited_so : (i : Input) (o : plain.RunOptions) (asked : Option ℕ) (r s : engine_regex.Regex) (l : SearchLimits) →
+pub limited_so : (i : Input) (o : plain.RunOptions) (asked : Option ℕ) (r s : engine_regex.Matcher) (l : SearchLimits) →
     engine.compiled_of s ≡ engine.compiled_of r → s.options ≡ record r.options { limits = l } → engine.IsMadeBy i o asked r → engine.IsMadeBy i o asked s
 limited_so i o asked r s l compiled options h = record {
   compiled = subst (IsCompiledFrom i) (sym compiled) h.compiled;
-  options = ap (λ (a : engine_options.RegexOptions). run_options_of a.run) options ∙ h.options;
-  backtracks = ap (λ (a : engine_options.RegexOptions). a.backtrack_limit) options ∙ h.backtracks;
+  options = ap (λ (a : engine_options.MatcherOptions). run_options_of a.run) options ∙ h.options;
+  backtracks = ap (λ (a : engine_options.MatcherOptions). a.backtrack_limit) options ∙ h.backtracks;
 }
 
 module _ (asked : RegexOptions) (tree : ExprTree) where
   module _ (a : plain.AnalysisOptions) (k : plain.CompileOptions) (as_analysed : a ≡ analysis asked) (as_compiled : k ≡ compilation asked) where
-    module _ (o : plain.RunOptions) (r : engine_regex.Regex) (as_run : (text : List ℕ) → options_for o asked.backtrack_limit text ≡ running asked text)
+    module _ (o : plain.RunOptions) (r : engine_regex.Matcher) (as_run : (text : List ℕ) → options_for o asked.backtrack_limit text ≡ running asked text)
         (h : engine.IsMadeBy (record { parsed = parsed_of tree; analysis = a; options = k }) o asked.backtrack_limit r) where
       pub compiled_so : (text : List ℕ) → engine.IsRegexOf (input tree asked) text (running asked text) r
       compiled_so text = record {
@@ -66,7 +66,7 @@ module _ (asked : RegexOptions) (tree : ExprTree) where
         (subst (λ m. ¬ IsNestedOver (record { parsed = parsed_of tree; analysis = a; options = k }) m) as_nested h))
 
   module _ (pattern : List ℕ) (spelled : IsTreeWithin pattern asked tree) where
-    pub built : (r : engine_regex.Regex) → ((text : List ℕ) → engine.IsRegexOf (input tree asked) text (running asked text) r) →
+    pub built : (r : engine_regex.Matcher) → ((text : List ℕ) → engine.IsRegexOf (input tree asked) text (running asked text) r) →
         (asked.backtrack_limit ≡ None → asked.step_limit ≡ 2 ^ 64 - 1 → engine.HasNoLimits r) → ¬ IsNestedOver (input tree asked) asked.max_nesting →
         (r.options).limits ≡ limits asked →
         (result : Result Regex Error) →
@@ -78,7 +78,7 @@ module _ (asked : RegexOptions) (tree : ExprTree) where
       compiled = λ text. subst (engine.IsRegexOf (input tree asked) text (running asked text)) (sym made.compiled) (of text);
       within = within;
       unlimited = λ backtracks steps. subst engine.HasNoLimits (sym made.compiled) (unlimited backtracks steps);
-      limited = ap (λ (e : engine_regex.Regex). (e.options).limits) made.compiled ∙ limited;
+      limited = ap (λ (e : engine_regex.Matcher). (e.options).limits) made.compiled ∙ limited;
       names = made.names;
       has_pattern = made.has_pattern;
       has_options = made.has_options;
@@ -112,10 +112,10 @@ built_of_same pattern o r s same h = record {
   within = h.within;
   unlimited = λ backtracks steps.
       let u = h.unlimited backtracks steps in (
-        ap (λ (a : engine_options.RegexOptions). a.backtrack_limit) (same.engine).1 ∙ u.0,
-        ap (λ (a : engine_options.RegexOptions). (a.run).step_limit) (same.engine).1 ∙ u.1,
+        ap (λ (a : engine_options.MatcherOptions). a.backtrack_limit) (same.engine).1 ∙ u.0,
+        ap (λ (a : engine_options.MatcherOptions). (a.run).step_limit) (same.engine).1 ∙ u.1,
       );
-  limited = ap (λ (a : engine_options.RegexOptions). a.limits) (same.engine).1 ∙ h.limited;
+  limited = ap (λ (a : engine_options.MatcherOptions). a.limits) (same.engine).1 ∙ h.limited;
   names = subst (AreNamesOf h.tree) (sym same.names) h.names;
   has_pattern = same.pattern ∙ h.has_pattern;
   has_options = same.options ∙ h.has_options;

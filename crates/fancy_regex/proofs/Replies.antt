@@ -11,9 +11,9 @@ use Rattle.fancy_expr.specs.declared.error.Error.TheVariants as of_engine
 use Rattle.fancy_steps.specs.SearchLimits.{EndsBy}
 use Rattle.fancy_steps.specs.declared.search_limits.SearchLimit.{SearchLimit}
 use Rattle.fancy_matches.specs.Listing.{ComesTo, Standing, by_match, ended, options_at, past_match, stays}
-use Rattle.fancy_matches.specs.Regexes.{FailsBy, FindsCaptures as FindsGroups, GivesBy, IsNoLimit, IsNoLimitWhereEasy, Shows, passed_in, shown_captures as engine_shown, with_numbers}
+use Rattle.fancy_matches.specs.Matchers.{FailsBy, FindsCaptures as FindsGroups, GivesBy, IsNoLimit, IsNoLimitWhereEasy, Shows, passed_in, shown_captures as engine_shown, with_numbers}
 use Rattle.fancy_matches.specs.declared.found.Captures.{Captures as Groups}
-use Rattle.fancy_matches.specs.declared.regexes.Regex as engine_regex
+use Rattle.fancy_matches.specs.declared.matcher.Matcher as engine_regex
 use Rattle.fancy_matches.proofs.Lists.{no_place_ends}
 use Rattle.fancy_regex.specs.Errors.{engine_error, limit_in, limit_told}
 use Rattle.fancy_regex.specs.Found.{shown_captures}
@@ -44,7 +44,7 @@ captures_found i text o found (Err e) is h =
 
 -- ---- where no limit was asked
 
-module _ (r : engine_regex.Regex) (text : List ℕ) where
+module _ (r : engine_regex.Matcher) (text : List ℕ) where
   -- an error that is passed on
   pub easy_error : {A : Type 0} (e : engine.Error) (f : Error) (result : Result A engine.Error) → engine_error f ≡ e → result ≡ Err e →
       IfErr result (IsNoLimitWhereEasy r text) → IsNoLimitWhereEasy r text (engine_error f)
@@ -68,7 +68,7 @@ names_told P (Ok x) h passed none = sym none
 names_told P (Err e) h passed none = ap limit_told h ∙ sym none
 
 -- no limit is told of where a search passed none, or there was no search
-pub told_none : (r q : engine_regex.Regex) → (passed_in q ≡ None) ⊎ (q ≡ r) →
+pub told_none : (r q : engine_regex.Matcher) → (passed_in q ≡ None) ⊎ (q ≡ r) →
     (◌≡◌ {A = Option SearchLimit} None (passed_in q)) ⊎ ((◌≡◌ {A = Option SearchLimit} None None) × (q ≡ r))
 told_none r q h = ⊎_elim (λ none. inl (sym none)) (λ same. inr (refl, same)) h
 

@@ -6,7 +6,7 @@ use Rattle.std.specs.declared.sync.Arc.{Arc}
 use Rattle.fancy_meaning.specs.Options as plain
 use Rattle.fancy_expr.specs.Views.{parsed_of}
 use Rattle.fancy_expr.specs.declared.expr.ExprTree.{ExprTree}
-use Rattle.fancy_matches.specs.Regexes.{shown_captures}
+use Rattle.fancy_matches.specs.Matchers.{shown_captures}
 use Rattle.fancy_matches.specs.declared.found.Captures as engine
 use Rattle.fancy_steps.specs.declared.search_limits.SearchLimits.{SearchLimits}
 use Rattle.fancy_scanner.specs.Scanning.{Rule}

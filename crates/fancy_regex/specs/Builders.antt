@@ -4,8 +4,8 @@ use Rattle.std.specs.Borrow.{Bor}
 use Rattle.fancy_expr.specs.Sound.{IsWellFormedTree}
 use Rattle.fancy_expr.specs.Views.{parsed_of}
 use Rattle.fancy_expr.specs.declared.expr.ExprTree.{ExprTree}
-use Rattle.fancy_matches.specs.Regexes.{HasNoLimits}
-use Rattle.fancy_matches.specs.declared.regexes.Regex as compiled_regex
+use Rattle.fancy_matches.specs.Matchers.{HasNoLimits}
+use Rattle.fancy_matches.specs.declared.matcher.Matcher as compiled_regex
 use Rattle.fancy_pattern.specs.Spelling as spelling
 use Rattle.fancy_pattern.specs.declared.error.PatternError.TheVariants as of_parser
 use Rattle.fancy_pattern.specs.declared.options.ParseOptions.{ParseOptions}
@@ -61,7 +61,7 @@ module _ (pattern : List ℕ) (o : RegexOptions) where
     pub within : ¬ ExceedsAnalysisLimit o.analysis_limit t
 
   -- it has this pattern and these options, the names of this tree, and what this was compiled to
-  pub record IsMadeOf (tree : ExprTree) (engine : compiled_regex.Regex) (r : Regex) : Type 0 where
+  pub record IsMadeOf (tree : ExprTree) (engine : compiled_regex.Matcher) (r : Regex) : Type 0 where
     pub has_pattern : pattern_of r ≡ pattern
     pub has_options : options_of r ≡ o
     pub names : AreNamesOf tree (names_of r)

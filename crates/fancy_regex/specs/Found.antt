@@ -1,28 +1,16 @@
--- What clauses see of a match, and of its groups.
-use Rattle.std.specs.Prelude.{◌≡◌, ◌<◌, ◌≤◌, ◌+◌, ℕ, List, [], ◌∷◌, Option, None, MatchOption, IfSome, option_map, slice_range}
+-- What clauses see of the groups of a match.
+use Rattle.std.specs.Prelude.{◌≡◌, ◌<◌, ◌≤◌, ◌+◌, ℕ, List, [], ◌∷◌, Option, None, MatchOption, IfSome, option_map}
 use Rattle.std.specs.Arc.{arc_value}
 use Rattle.std.specs.Option.{option_or}
 use Rattle.fancy_meaning.specs.MatchState.{Span}
 use Rattle.fancy_matches.specs.Listing.{group_span}
-use Rattle.fancy_matches.specs.Regexes as engine
+use Rattle.fancy_matches.specs.Matchers as engine
+use Rattle.fancy_matches.specs.Matchers.{span_of, text_of}
+use Rattle.fancy_matches.specs.declared.found.Match.{Match}
 use Rattle.fancy_regex.specs.Names.{group_count}
 use Rattle.fancy_regex.specs.declared.found.Captures.{Captures}
-use Rattle.fancy_regex.specs.declared.found.Match.{Match}
 use Rattle.fancy_regex.specs.declared.found.SubCaptureMatches.{SubCaptureMatches}
 use Rattle.fancy_regex.specs.declared.names.GroupNames.{GroupNames}
-
-abbrev pub text_of : Match → List ℕ
-text_of m = engine.text_of m.found
-
-abbrev pub span_of : Match → Span
-span_of m = engine.span_of m.found
-
--- what matched
-abbrev pub part_of : Match → List ℕ
-part_of m = slice_range (text_of m) (span_of m).0 (span_of m).1
-
-abbrev pub shown_match : Match → List ℕ × Span
-shown_match m = engine.shown_match m.found
 
 abbrev pub captures_text : Captures → List ℕ
 captures_text c = engine.captures_text c.groups

@@ -4,13 +4,14 @@ use Rattle.std.specs.Borrow.{MutBor}
 use Rattle.fancy_meaning.specs.Options as plain
 use Rattle.fancy_meaning.specs.Premises.{Input}
 use Rattle.fancy_matches.specs.Listing.{Standing, at_start}
-use Rattle.fancy_matches.specs.Regexes.{GivesBy, standing_of, with_numbers, with_span}
+use Rattle.fancy_matches.specs.Matchers.{GivesBy, standing_of, with_numbers, with_span}
 use Rattle.fancy_regex.specs.Errors.{item_of}
-use Rattle.fancy_regex.specs.Found.{captures_names, shown_captures, shown_match}
+use Rattle.fancy_matches.specs.Matchers.{shown_match}
+use Rattle.fancy_regex.specs.Found.{captures_names, shown_captures}
 use Rattle.fancy_regex.specs.Regexes.{IsNoLimitWhereEasy, IsRegexOf, IsSameLoan, TellsLimitsInStep, names_of}
 use Rattle.fancy_regex.specs.declared.error.Error.{Error}
 use Rattle.fancy_regex.specs.declared.found.Captures.{Captures}
-use Rattle.fancy_regex.specs.declared.found.Match.{Match}
+use Rattle.fancy_matches.specs.declared.found.Match.{Match}
 use Rattle.fancy_regex.specs.declared.iterators.CaptureMatches.{CaptureMatches}
 use Rattle.fancy_regex.specs.declared.iterators.Matches.{Matches}
 use Rattle.fancy_regex.specs.declared.names.GroupNames.{GroupNames}

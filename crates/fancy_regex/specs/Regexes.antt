@@ -6,16 +6,17 @@ use Rattle.std.specs.declared.alloc.Global.{Global}
 use Rattle.std.specs.declared.borrow.CowStr.{CowStr}
 use Rattle.fancy_meaning.specs.Options as plain
 use Rattle.fancy_meaning.specs.Premises.{Input}
-use Rattle.fancy_matches.specs.Regexes as engine
-use Rattle.fancy_matches.specs.declared.regexes.Regex as engine_regex
-use Rattle.fancy_matches.specs.Regexes.{Shows, with_numbers, with_span}
+use Rattle.fancy_matches.specs.Matchers as engine
+use Rattle.fancy_matches.specs.declared.matcher.Matcher as engine_regex
+use Rattle.fancy_matches.specs.Matchers.{Shows, with_numbers, with_span}
 use Rattle.fancy_replace.specs.Replacements as replacements
 use Rattle.fancy_steps.specs.declared.search_limits.SearchLimit.{SearchLimit}
 use Rattle.fancy_regex.specs.Errors.{engine_error, limit_in, limit_of_item, reply_of}
-use Rattle.fancy_regex.specs.Found.{shown_captures, shown_match}
+use Rattle.fancy_matches.specs.Matchers.{shown_match}
+use Rattle.fancy_regex.specs.Found.{shown_captures}
 use Rattle.fancy_regex.specs.declared.error.Error.{Error}
 use Rattle.fancy_regex.specs.declared.found.Captures.{Captures}
-use Rattle.fancy_regex.specs.declared.found.Match.{Match}
+use Rattle.fancy_matches.specs.declared.found.Match.{Match}
 use Rattle.fancy_regex.specs.declared.names.GroupNames.{GroupNames}
 use Rattle.fancy_regex.specs.declared.options.RegexOptions.{RegexOptions}
 use Rattle.fancy_regex.specs.declared.regexes.Regex.{Regex}
@@ -28,7 +29,7 @@ abbrev pub names_of : Regex → GroupNames
 names_of r = arc_value r.names
 
 -- what the pattern was compiled to
-abbrev pub engine_of : Regex → engine_regex.Regex
+abbrev pub engine_of : Regex → engine_regex.Matcher
 engine_of r = r.engine
 
 -- how it was asked to be

@@ -6,18 +6,18 @@ use Rattle.std.specs.Borrow.{MutBor}
 use Rattle.fancy_expr.specs.declared.error.Error as engine_error_of
 use Rattle.fancy_expr.specs.declared.expr.ExprTree.{ExprTree}
 use Rattle.fancy_scanner.specs.Kept.{kept_captures}
-use Rattle.fancy_scanner.specs.Limits.{passed_with}
+use Rattle.fancy_scanner.specs.Limits.{TellsPassed, passed_with}
 use Rattle.fancy_scanner.specs.Scanning as trees
 use Rattle.fancy_scanner.specs.Scanning.{Rule}
 use Rattle.fancy_scanner.specs.Scans as engine
 use Rattle.fancy_scanner.specs.declared.answers.Answer.{Answer}
-use Rattle.fancy_scanner.specs.declared.scan_text.ScanStep as engine_step
+use Rattle.fancy_scanner.specs.declared.scan_text.ScanStep.{ScanStep}
 use Rattle.fancy_scanner.specs.declared.scan_text.TreeMatch.{TreeMatch}
 use Rattle.fancy_scanner.specs.declared.scanner.Scan.{Scan}
 use Rattle.fancy_scanner.specs.declared.scanner.ScanTree.{ScanTree}
-use Rattle.fancy_scanner.specs.declared.scanner.Scanner as engine_scanner
+use Rattle.fancy_scanner.specs.declared.scanner.TreeScanner as engine_scanner
 use Rattle.fancy_steps.specs.declared.search_limits.SearchLimit.{SearchLimit}
-use Rattle.fancy_matches.specs.Regexes as found
+use Rattle.fancy_matches.specs.Matchers as found
 use Rattle.fancy_regex.specs.Builders.{AreNamesOf, IsTreeOf}
 use Rattle.fancy_regex.specs.Errors.{engine_error}
 use Rattle.fancy_regex.specs.Found.{captures_names, shown_captures}
@@ -26,9 +26,7 @@ use Rattle.fancy_regex.specs.declared.error.Error.{Error}
 use Rattle.fancy_regex.specs.declared.found.Captures.{Captures}
 use Rattle.fancy_regex.specs.declared.names.GroupNames.{GroupNames}
 use Rattle.fancy_regex.specs.declared.options.RegexOptions.{RegexOptions}
-use Rattle.fancy_regex.specs.declared.scanner.ScanMatch.{ScanMatch}
 use Rattle.fancy_regex.specs.declared.scanner.ScanPattern.{ScanPattern}
-use Rattle.fancy_regex.specs.declared.scanner.ScanStep.{ScanStep}
 use Rattle.fancy_regex.specs.declared.scanner.ScanText.{ScanText}
 use Rattle.fancy_regex.specs.declared.scanner.Scanner.{Scanner}
 
@@ -56,7 +54,7 @@ pub record IsScanTree (pattern : List ℕ) (o : RegexOptions) (t : ScanTree) : T
 -- ---- a scanner
 
 -- what its patterns were compiled to
-abbrev pub trees_in : Scanner → engine_scanner.Scanner
+abbrev pub trees_in : Scanner → engine_scanner.TreeScanner
 trees_in s = s.trees
 
 -- the names of the groups of each pattern
@@ -94,7 +92,7 @@ abbrev pub text_of : ScanText → List ℕ
 text_of s = s.text.now
 
 -- what its patterns were compiled to
-abbrev pub trees_of : ScanText → engine_scanner.Scanner
+abbrev pub trees_of : ScanText → engine_scanner.TreeScanner
 trees_of s = trees_in s.scanner.now
 
 -- what is kept of each pattern, where something is
@@ -132,27 +130,21 @@ passed_from pos s k = passed_with pos (trees_of s) (answers_of s) k
 
 -- ---- what is told
 
--- a match as the scan by trees has it
-abbrev pub tree_match : ScanMatch → TreeMatch
-tree_match m = record { index = m.index; whole = (m.whole).found }
-
-abbrev pub tree_step : ScanStep → engine_step.ScanStep
-tree_step s = record { found = option_map tree_match s.found; stopped = s.stopped }
-
 -- what was told, as the scanner by trees tells it
 abbrev pub scan_result : ScanText → Result ScanStep Error → Result Scan engine_error_of.Error
-scan_result s (Ok step) = engine.told_with (answers_of s) (Ok (tree_step step))
+scan_result s (Ok step) = engine.told_with (answers_of s) (Ok step)
 scan_result s (Err e) = Err (engine_error e)
 
 -- the text and the span of the match are those of the groups that are kept of its pattern
-abbrev pub IsWholeIn : ScanText → ScanMatch → Type 0
-IsWholeIn s m = engine.IsWholeIn (answers_of s) (tree_match m)
+abbrev pub IsWholeIn : ScanText → TreeMatch → Type 0
+IsWholeIn s m = engine.IsWholeIn (answers_of s) m
 
 -- what is told from the start of the text, as a scan tells it
 pub record FindsFirst (text : List ℕ) (rules : List Rule) (result : Result ScanStep Error) : Type 0 where
   pub scan : ScanText
   pub promise : trees.Scans text 0 rules (scan_result scan result)
   pub whole : IfOk result (λ step. IfSome step.found (IsWholeIn scan))
+  pub limits : IfOk result (λ step. TellsPassed (passed_from 0 scan) (option_map (λ m. m.index) step.found) step.stopped)
 
 -- the groups of a match, with the names of its pattern
 abbrev pub NamedGroups : Type 0

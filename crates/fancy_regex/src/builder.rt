@@ -11,7 +11,7 @@ use crate::options::RegexOptions;
 use crate::regexes::Regex;
 use crate::scanner::ScanPattern;
 use fancy_expr::expr::ExprTree;
-use fancy_matches::regexes::Regex as Engine;
+use fancy_matches::matcher::Matcher;
 use fancy_pattern::pattern::parse_tree;
 use fancy_scanner::scanner::ScanTree;
 use std::alloc::Global;
@@ -310,7 +310,7 @@ impl<'p> RegexBuilder<'p> {
     {
         let tree = self.tree_within_limit(alloc)?;
         let search = self.options.search_options();
-        match Engine::new(alloc, &tree, &search, self.options.backtrack_limit) {
+        match Matcher::new(alloc, &tree, &search, self.options.backtrack_limit) {
             Ok(engine) => {
                 let mut engine = engine;
                 engine.limit(self.options.search_limits());
@@ -370,7 +370,7 @@ impl<'p> RegexBuilder<'p> {
     }
 
     /// The regex of the pattern, by its tree and what this was compiled to.
-    fn regex_of(&self, alloc: Global, tree: ExprTree, engine: Engine) -> Result<Regex, Error>
+    fn regex_of(&self, alloc: Global, tree: ExprTree, engine: Matcher) -> Result<Regex, Error>
         requires { tree.total_groups ≤ most_groups }
         ensures { MatchResult
             result

@@ -1,121 +1,24 @@
-//! A match, and its groups by their numbers and names.
+//! The groups of a match, by their numbers and names.
 
-ghost use Rattle.std.specs.Prelude.{◌≡◌, ◌++◌, ◌-◌, ◌==◌, IfSome, OnOk, nat_eq, option_map, string_bytes};
-ghost use Rattle.std.specs.Cmp.Rules.{comparing};
-ghost use Rattle.std.specs.Ordering.{eq_of_both, on};
-ghost use Rattle.std.specs.Str.{bytes_eq};
-ghost use Rattle.std.proofs.Common.{rules};
+ghost use Rattle.std.specs.Prelude.{◌≡◌, ◌++◌, ◌-◌, IfSome, OnOk, option_map, string_bytes};
 ghost use Rattle.std.specs.Iterator.{at_most};
 ghost use Rattle.fancy_matches.specs.Listing.{group_span};
 ghost use Rattle.fancy_steps.specs.Outcomes.{first_pair};
 ghost use Rattle.fancy_replace.specs.Reading.{expansion};
 ghost use Rattle.fancy_regex.specs.Names.{group_count, names_in, numbers_named};
-ghost use Rattle.fancy_regex.specs.Found.{NextGroup, captures_names, captures_text, first_span, numbers_in, part_of, span_of, text_of};
+ghost use Rattle.fancy_matches.specs.Matchers.{span_of, text_of};
+ghost use Rattle.fancy_regex.specs.Found.{NextGroup, captures_names, captures_text, first_span, numbers_in};
 
 use crate::error::Error;
 use crate::names::GroupNames;
-use fancy_matches::found as engine;
+use fancy_matches::found::{Captures as Groups, Match};
 use fancy_replace::replacer::Replacer;
 use fancy_replace::template::Template;
-use std::fmt;
-use std::ops::Range;
 use std::sync::Arc;
-
-/// A match: a part of a text, with its place. Positions are in bytes of the text, from 0.
-#[derive(Clone, Copy)]
-pub struct Match<'t> {
-    pub(crate) found: engine::Match<'t>,
-}
-
-impl<'t> Match<'t> {
-    /// The byte where the match begins.
-    pub fn start(&self) -> usize
-        ensures { result ≡ (span_of self.now).0 }
-    {
-        self.found.start()
-    }
-
-    /// The byte where the match ends: the first one after it.
-    pub fn end(&self) -> usize
-        ensures { result ≡ (span_of self.now).1 }
-    {
-        self.found.end()
-    }
-
-    /// How many bytes the match has.
-    pub fn len(&self) -> usize
-        ensures { result ≡ (span_of self.now).1 - (span_of self.now).0 }
-    {
-        self.end() - self.start()
-    }
-
-    /// Whether the match is empty.
-    pub fn is_empty(&self) -> bool
-        ensures { result ≡ ((span_of self.now).0 == (span_of self.now).1) }
-    {
-        self.start() == self.end()
-    }
-
-    /// The bytes of the match, from `start` to `end`.
-    pub fn range(&self) -> Range<usize>
-        ensures start { result.start ≡ (span_of self.now).0 }
-        ensures end { result.end ≡ (span_of self.now).1 }
-    {
-        self.start()..self.end()
-    }
-
-    /// The part of the text that matched.
-    pub fn as_str(&self) -> &'t str
-        ensures { result.now ≡ part_of self.now }
-    {
-        self.found.as_str()
-    }
-}
-
-/// Two matches are equal if they begin at the same byte and have the same text.
-impl<'t> PartialEq for Match<'t> {
-    ghost eq = { eq_of_both (on (λ m. (span_of m).0) nat_eq) (on part_of bytes_eq) };
-
-    ghost laws = { Prim.search (comparing, rules) };
-
-    fn eq(&self, other: &Match<'t>) -> bool {
-        self.start() == other.start() && self.as_str() == other.as_str()
-    }
-}
-
-impl<'t> Eq for Match<'t> {
-    ghost laws = { Prim.search (comparing, rules) };
-}
-
-impl<'t> From<Match<'t>> for &'t str {
-    ghost from_gives = { λ m part. part.now ≡ part_of m };
-
-    fn from(found: Match<'t>) -> &'t str {
-        found.as_str()
-    }
-}
-
-impl<'t> From<Match<'t>> for Range<usize> {
-    ghost from_gives = { λ m range. (range.start ≡ (span_of m).0) × (range.end ≡ (span_of m).1) };
-
-    fn from(found: Match<'t>) -> Range<usize> {
-        found.range()
-    }
-}
-
-impl fmt::Debug for Match<'_> {
-    fn fmt<W: fmt::Write>(&self, f: &mut fmt::Formatter<W>) -> fmt::Result {
-        f.debug_struct("Match")
-            .field("start", &self.start())
-            .field("end", &self.end())
-            .field("string", &self.as_str())
-            .finish()
-    }
-}
 
 /// A match with its groups, by their numbers and names. Group 0 is the match itself.
 pub struct Captures<'t> {
-    pub(crate) groups: engine::Captures<'t>,
+    pub(crate) groups: Groups<'t>,
     pub(crate) names: Arc<GroupNames>,
 }
 
@@ -135,9 +38,7 @@ impl<'t> Captures<'t> {
         ensures span { span_of result ≡ first_pair (numbers_in self.now) }
         ensures within { text_of result ≡ captures_text self.now }
     {
-        Match {
-            found: self.groups.whole(),
-        }
+        self.groups.whole()
     }
 
     /// What the group with this number captured. `None` if the group is not set, or if there is no such group. Group 0 is
@@ -156,10 +57,7 @@ impl<'t> Captures<'t> {
         ensures found { option_map span_of result ≡ group_span (numbers_in self.now) group }
         ensures within { IfSome result (λ m. text_of m ≡ captures_text self.now) }
     {
-        match self.groups.get(group) {
-            Some(found) => Some(Match { found }),
-            None => None,
-        }
+        self.groups.get(group)
     }
 
     /// What the group with this name captured; of several groups with the name, the first that is set. `None` if none of

@@ -5,8 +5,9 @@ ghost use Rattle.std.specs.Iterator.{at_most};
 ghost use Rattle.fancy_regex.specs.Lists.{NextCaptures, NextMatch};
 
 use crate::error::Error;
-use crate::found::{Captures, Match};
+use crate::found::Captures;
 use crate::regexes::Regex;
+use fancy_matches::found::Match;
 use fancy_matches::standing::Standing;
 
 /// The matches of a text from left to right, each with its groups; [`Regex::captures_iter`] makes it.

@@ -5,14 +5,14 @@ ghost use Rattle.fancy_meaning.specs.Options as plain;
 ghost use Rattle.fancy_meaning.specs.Places as places;
 ghost use Rattle.fancy_meaning.specs.Premises.{Input};
 ghost use Rattle.fancy_matches.specs.Listing as list;
-ghost use Rattle.fancy_matches.specs.Regexes as engine;
-ghost use Rattle.fancy_matches.specs.Regexes.{standing_of};
+ghost use Rattle.fancy_matches.specs.Matchers as engine;
+ghost use Rattle.fancy_matches.specs.Matchers.{standing_of};
 ghost use Rattle.fancy_replace.specs.Pieces.{as_limit};
-ghost use Rattle.fancy_matches.specs.declared.regexes.Regex as engine_regex;
+ghost use Rattle.fancy_matches.specs.declared.matcher.Matcher as engine_regex;
 ghost use Rattle.fancy_regex.specs.Builders.{IsBuilt, IsRefused};
 ghost use Rattle.fancy_steps.specs.SearchLimits.{EndsBy};
 ghost use Rattle.fancy_regex.specs.Errors.{engine_error, limit_told};
-ghost use Rattle.fancy_regex.specs.Found.{captures_names, shown_captures, shown_match};
+ghost use Rattle.fancy_regex.specs.Found.{captures_names, shown_captures};
 ghost use Rattle.fancy_regex.specs.Lists.{Begins, HaveNames, GivesCaptures, GivesMatch, captures_iteration, matches_iteration};
 ghost use Rattle.fancy_regex.specs.Names.{group_count, names_in};
 ghost use Rattle.fancy_regex.specs.Options.{default_options};
@@ -21,14 +21,14 @@ ghost use Rattle.fancy_regex.specs.declared.options.RegexOptions.{RegexOptions};
 
 use crate::builder::RegexBuilder;
 use crate::error::Error;
-use crate::found::{Captures, Match};
+use crate::found::Captures;
 use crate::iterators::{CaptureMatches, Matches};
 use crate::names::{CaptureNames, GroupNames};
 use crate::options::RegexOptions;
 use crate::replacement::Replacement;
 use fancy_expr::error::Error as EngineError;
-use fancy_matches::found::{Captures as Groups, Match as Found};
-use fancy_matches::regexes::Regex as Engine;
+use fancy_matches::found::{Captures as Groups, Match};
+use fancy_matches::matcher::Matcher;
 use fancy_matches::standing::Standing;
 use fancy_replace::replace::replacen;
 use std::alloc::{AllocError, Global};
@@ -56,7 +56,7 @@ pub struct Regex {
     pub(crate) pattern: String,
     pub(crate) options: RegexOptions,
     pub(crate) names: Arc<GroupNames>,
-    pub(crate) engine: Engine,
+    pub(crate) engine: Matcher,
 }
 
 // Not derived: whoever owns one calls this drop, and would prove a derived one again (docs/GATE.md).
@@ -182,14 +182,14 @@ impl Regex {
     /// What a search of the engine found.
     fn matched<'t>(
         &self,
-        found: Result<Option<Found<'t>>, EngineError>,
+        found: Result<Option<Match<'t>>, EngineError>,
     ) -> Result<Option<Match<'t>>, Error>
         ensures promise { (i : Input)
             → (text : List ℕ)
             → (o : plain.RunOptions)
             → engine.FindsMatch i text o found.entry
             → FindsMatch i text o result }
-        ensures easy { (r : engine_regex.Regex)
+        ensures easy { (r : engine_regex.Matcher)
             → (text : List ℕ)
             → IfErr found.entry (engine.IsNoLimitWhereEasy r text)
             → IfErr result (λ e. engine.IsNoLimitWhereEasy r text (engine_error e)) }
@@ -197,7 +197,7 @@ impl Regex {
             → TellsLimits result self.now }
     {
         match found {
-            Ok(found) => Ok(some_match(found)),
+            Ok(found) => Ok(found),
             Err(error) => Err(self.told(error)),
         }
     }
@@ -212,7 +212,7 @@ impl Regex {
             → (o : plain.RunOptions)
             → engine.FindsCaptures i text o found.entry
             → FindsCaptures i text o result }
-        ensures easy { (r : engine_regex.Regex)
+        ensures easy { (r : engine_regex.Matcher)
             → (text : List ℕ)
             → IfErr found.entry (engine.IsNoLimitWhereEasy r text)
             → IfErr result (λ e. engine.IsNoLimitWhereEasy r text (engine_error e)) }
@@ -228,7 +228,7 @@ impl Regex {
     }
 
     /// Takes the regex apart into the compiled tree, which a `Scanner` of fancy_scanner takes.
-    pub fn into_engine(self) -> Engine
+    pub fn into_engine(self) -> Matcher
         ensures { result ≡ engine_of self }
     {
         let Regex {
@@ -443,7 +443,7 @@ impl Regex {
     {
         match self.engine.next_match(text, standing) {
             None => None,
-            Some(Ok(found)) => Some(Ok(Match { found })),
+            Some(Ok(found)) => Some(Ok(found)),
             Some(Err(error)) => Some(Err(self.told(error))),
         }
     }
@@ -573,15 +573,5 @@ impl fmt::Debug for Regex {
     /// The pattern.
     fn fmt<W: fmt::Write>(&self, f: &mut fmt::Formatter<W>) -> fmt::Result {
         write!(f, "{self}")
-    }
-}
-
-/// A match, if there is one.
-fn some_match<'t>(found: Option<Found<'t>>) -> Option<Match<'t>>
-    ensures { option_map shown_match result ≡ option_map engine.shown_match found.entry }
-{
-    match found {
-        Some(found) => Some(Match { found }),
-        None => None,
     }
 }

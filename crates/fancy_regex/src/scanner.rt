@@ -3,22 +3,22 @@
 ghost use Rattle.std.specs.Arc.{arc_value};
 ghost use Rattle.std.specs.Prelude.{◌≡◌, ◌<◌, ◌^◌, [], ℕ, IfErr, IfOk, IfSome, IsTrue, List, MatchResult, None, OnErr, OnOk, length, option_map};
 ghost use Rattle.fancy_meaning.specs.Places as places;
-ghost use Rattle.fancy_matches.specs.Regexes as engine;
+ghost use Rattle.fancy_matches.specs.Matchers as engine;
 ghost use Rattle.fancy_scanner.specs.Limits.{TellsPassed};
 ghost use Rattle.fancy_scanner.specs.Scanning.{AreEasy, AreEasyRuns, IsStoppedByDelegates, Rule, Scans};
 ghost use Rattle.fancy_regex.specs.Builders.{IsRefused, options};
 ghost use Rattle.fancy_regex.specs.Found.{captures_names, shown_captures};
 ghost use Rattle.fancy_regex.specs.Options.{default_options};
-ghost use Rattle.fancy_regex.specs.Scanners.{Adds, BeginsScan, FindsFirst, GoesOn, IsScanOf, IsScannerOf, IsWholeIn, Keeps, KeepsHeld, kept_groups, named_groups, names_listed, passed_from, scan_result, scanner_of, text_of, tree_match, tree_step};
+ghost use Rattle.fancy_regex.specs.Scanners.{Adds, BeginsScan, FindsFirst, GoesOn, IsScanOf, IsScannerOf, IsWholeIn, Keeps, KeepsHeld, kept_groups, named_groups, names_listed, passed_from, scan_result, scanner_of, text_of};
 
 use crate::builder::RegexBuilder;
 use crate::error::Error;
-use crate::found::{Captures, Match};
+use crate::found::Captures;
 use crate::names::GroupNames;
 use fancy_matches::found::Captures as Groups;
 use fancy_scanner::scan_cache::ScanCache;
-use fancy_scanner::scan_text as by_trees;
-use fancy_scanner::scanner::{ScanTree, Scanner as TreeScanner, Stopped};
+use fancy_scanner::scan_text::ScanStep;
+use fancy_scanner::scanner::{ScanTree, Stopped, TreeScanner};
 use std::alloc::{AllocError, Global};
 use std::sync::Arc;
 
@@ -126,59 +126,19 @@ impl Scanner {
     pub fn find<'t>(&mut self, text: &'t str) -> Result<ScanStep<'t>, Error>
         ensures first { (rules : List Rule)
             → IsScannerOf rules text.now self.old → FindsFirst text.now rules result }
+        ensures easy { (rules : List Rule)
+            → IsScannerOf rules text.now self.old → AreEasy text.now rules
+            → length text.now < 2 ^ 60 → IfOk result (λ step. step.stopped ≡ None) }
+        ensures easy_run { (rules : List Rule)
+            → IsScannerOf rules text.now self.old → AreEasyRuns text.now rules
+            → length text.now < 2 ^ 60
+            → IfOk result (λ step. IsStoppedByDelegates step.stopped) }
         ensures same { Keeps self.old self.new }
     {
         let mut scan = self.scan(text);
         let step = scan.find_from(0);
         let _scanner = scan.into_scanner();
         step
-    }
-}
-
-/// A match of one of the patterns, without its groups.
-#[derive(Clone, Copy)]
-pub struct ScanMatch<'t> {
-    /// The pattern that matched: how many patterns were added before it.
-    pub index: usize,
-    /// The match itself, which is group 0.
-    pub whole: Match<'t>,
-}
-
-/// What a scan finds from a position on.
-#[derive(Clone, Copy)]
-pub struct ScanStep<'t> {
-    /// The first matches of all patterns are compared, and this is the one that begins first. Of several that begin there
-    /// it is that of the pattern that was added first. `ScanText::captures` has its groups.
-    pub found: Option<ScanMatch<'t>>,
-    /// The first pattern whose search exceeded a limit, if there is one: how many were added before it, and the limit.
-    /// Whether that pattern has a match is not known.
-    pub stopped: Option<Stopped>,
-}
-
-impl<'t> ScanStep<'t> {
-    /// What a scan by trees found.
-    fn of(step: by_trees::ScanStep<'t>) -> ScanStep<'t>
-        ensures { tree_step result ≡ step.entry }
-    {
-        ScanStep {
-            found: ScanMatch::of(step.found),
-            stopped: step.stopped,
-        }
-    }
-}
-
-impl<'t> ScanMatch<'t> {
-    /// The match of a scan by trees, if there is one.
-    fn of(found: Option<by_trees::TreeMatch<'t>>) -> Option<ScanMatch<'t>>
-        ensures { option_map tree_match result ≡ found.entry }
-    {
-        match found {
-            None => None,
-            Some(found) => Some(ScanMatch {
-                index: found.index,
-                whole: Match { found: found.whole },
-            }),
-        }
     }
 }
 
@@ -227,7 +187,7 @@ impl<'r, 't> ScanText<'r, 't> {
             .trees
             .find_with(self.text, &mut self.cache, pos);
         match found {
-            Ok(step) => Ok(ScanStep::of(step)),
+            Ok(step) => Ok(step),
             Err(error) => Err(Error::from(error)),
         }
     }

@@ -11,9 +11,9 @@ use Rattle.fancy_expr.specs.declared.error.Error.{Error}
 use Rattle.fancy_search.specs.Searches.{IsCompiledFrom}
 use Rattle.fancy_steps.specs.Outcomes.{first_pair}
 use Rattle.fancy_matches.specs.Listing.{AreApart, ComesTo, Standing, all_matches}
-use Rattle.fancy_matches.specs.Regexes.{FailsBy, GivesCaptures, IsRegexOf, captures_text, compiled_of, left_of, numbers_in, options_in, passed_in, standing_of}
+use Rattle.fancy_matches.specs.Matchers.{FailsBy, GivesCaptures, IsRegexOf, captures_text, compiled_of, left_of, numbers_in, options_in, passed_in, standing_of}
 use Rattle.fancy_matches.specs.declared.found.Captures.{Captures}
-use Rattle.fancy_matches.specs.declared.regexes.Regex.{Regex}
+use Rattle.fancy_matches.specs.declared.matcher.Matcher.{Matcher}
 use Rattle.fancy_matches.proofs.Lists.{matches_apart}
 use Rattle.fancy_replace.specs.Pieces.{at_most_pieces, pieces_between, take_limit}
 use Rattle.fancy_replace.specs.Steps.{AreAhead, HasAllCuts, IsAhead, IsNextCut, StaysInCut, all_left, cuts_left, rest_of}
@@ -59,13 +59,13 @@ is_spent (Some zero) = inl refl
 is_spent (Some (suc n)) = inr (λ e. cc)
 
 -- where no match is left, a search passed none of them or there was no search
-pub stays_last : (s : Cuts) (r q : Regex) → StaysInCut s (Ok None) q → (s.limit ≡ Some 0 → q ≡ r) → (passed_in q ≡ None) ⊎ (q ≡ r)
+pub stays_last : (s : Cuts) (r q : Matcher) → StaysInCut s (Ok None) q → (s.limit ≡ Some 0 → q ≡ r) → (passed_in q ≡ None) ⊎ (q ≡ r)
 stays_last s r q stays spent = ⊎_elim (λ e. inr (spent e)) (λ some. inl (stays some)) (is_spent s.limit)
 
 -- ---- a step
 
 -- what a search answered where the text was gone through so far
-module _ (r : Regex) (s : Cuts) (ahead : IsAhead r s) (found : Option (Result Captures Error)) (t : Standing)
+module _ (r : Matcher) (s : Cuts) (ahead : IsAhead r s) (found : Option (Result Captures Error)) (t : Standing)
     (list : (i : Input) (o : plain.RunOptions) → IsRegexOf i s.text.now o r → GivesCaptures i s.text.now o (standing_of s.standing) found t) where
   abbrev text : List ℕ
   text = s.text.now

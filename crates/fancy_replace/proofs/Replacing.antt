@@ -10,8 +10,8 @@ use Rattle.fancy_expr.specs.declared.error.Error.{Error}
 use Rattle.fancy_steps.specs.Outcomes.{first_pair}
 use Rattle.fancy_steps.specs.SearchLimits.{EndsBy}
 use Rattle.fancy_matches.specs.Listing.{AreApart, ComesTo, PiecesJoin, all_matches, all_spans, at_start, in_turn, part, stays}
-use Rattle.fancy_matches.specs.Regexes.{FailsBy, IsNoLimitWhereEasy, IsRegexOf, IsSame, captures_text, left_of, numbers_in, passed_in, standing_of}
-use Rattle.fancy_matches.specs.declared.regexes.Regex.{Regex}
+use Rattle.fancy_matches.specs.Matchers.{FailsBy, IsNoLimitWhereEasy, IsRegexOf, IsSame, captures_text, left_of, numbers_in, passed_in, standing_of}
+use Rattle.fancy_matches.specs.declared.matcher.Matcher.{Matcher}
 use Rattle.fancy_replace.specs.Pieces.{IsBelow, as_limit, pieces_between, rewrite, take_limit}
 use Rattle.fancy_replace.specs.Replacements.{FailsAfter, KeepsBefore, WritesMatch, to_replace}
 use Rattle.fancy_replace.specs.Splits.{most_pieces}
@@ -41,8 +41,8 @@ pub record IsDone (i : Input) (o : plain.RunOptions) (text : List ℕ) (most : O
   pub fresh : is_same ≡ true → left_in i o text s ≡ to_replace i o text most
   pub some : is_same ≡ false → ¬ (to_replace i o text most ≡ [])
 
--- the regex is of the same tree, and a search was made where no more are to be
-pub record GoesOn (r q : Regex) (text : List ℕ) (most : Option ℕ) (replacement : List ℕ → List ℕ) (s : Cuts)
+-- the matcher is of the same tree, and a search was made where no more are to be
+pub record GoesOn (r q : Matcher) (text : List ℕ) (most : Option ℕ) (replacement : List ℕ → List ℕ) (s : Cuts)
     (out : List ℕ) (is_same : Bool) : Type 0 where
   pub same : IsSame r q
   pub within : s.text.now ≡ text
@@ -72,7 +72,7 @@ as_limit_some (suc n) e =
     let is : as_limit (suc n) ≡ Some (suc n) = ap (λ b. if b then None else Some (suc n)) (ne_eqb (suc n) 0 (λ z. absurd (omega (arith, z)))) in
     let both : Some (suc n) ≡ Some 0 = sym is ∙ e in cc
 
-pub at_first : (r : Regex) (text : List ℕ) (limit : ℕ) (replacement : List ℕ → List ℕ) (s : Cuts) (out : List ℕ) →
+pub at_first : (r : Matcher) (text : List ℕ) (limit : ℕ) (replacement : List ℕ → List ℕ) (s : Cuts) (out : List ℕ) →
     HasAllCuts text (as_limit limit) s → out ≡ [] → GoesOn r r text (as_limit limit) replacement s out true
 at_first r text limit replacement s out h none = let most = as_limit limit in record {
   same = (refl, refl);
@@ -178,7 +178,7 @@ fails_after i o text most replacement s out is_same e at h done =
 
 -- ---- a call for the next match
 
-module _ (r q p : Regex) (text : List ℕ) (most : Option ℕ) (write : List ℕ → List ℕ → List ℕ) (s t : Cuts) (out : List ℕ) (is_same : Bool)
+module _ (r q p : Matcher) (text : List ℕ) (most : Option ℕ) (write : List ℕ → List ℕ → List ℕ) (s t : Cuts) (out : List ℕ) (is_same : Bool)
     (so_far : GoesOn r q text most (write text) s out is_same) (found : Result (Option Cut) Error) (next : NextCut q s found p t) where
   to : t.text.now ≡ text
   to = next.within ∙ so_far.within

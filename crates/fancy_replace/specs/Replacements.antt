@@ -9,8 +9,8 @@ use Rattle.fancy_expr.specs.declared.error.Error.{Error}
 use Rattle.fancy_expr.specs.declared.error.Error.TheVariants.{Memory}
 use Rattle.fancy_steps.specs.Outcomes.{first_pair}
 use Rattle.fancy_matches.specs.Listing.{ComesTo, Standing, all_matches, at_start, part}
-use Rattle.fancy_matches.specs.Regexes.{FailsAt, IsNoLimitWhereEasy, IsRegexOf, IsSame, StaysIn}
-use Rattle.fancy_matches.specs.declared.regexes.Regex.{Regex}
+use Rattle.fancy_matches.specs.Matchers.{FailsAt, IsNoLimitWhereEasy, IsRegexOf, IsSame, StaysIn}
+use Rattle.fancy_matches.specs.declared.matcher.Matcher.{Matcher}
 use Rattle.fancy_replace.specs.Outputs.{Grows}
 use Rattle.fancy_replace.specs.Pieces.{IsBelow, rewrite, take_limit}
 
@@ -51,10 +51,10 @@ KeepsBefore i o text new =
     (first : List ℕ) (others : List (List ℕ)) → all_matches (plan i) text o ≡ first ∷ others →
     take (first_pair first).0 new ≡ take (first_pair first).0 text
 
--- A replacement of the first so many matches of a regex, or of all, by what is written for each, answered this, and left
--- the regex so.
-pub record IsReplacement (r : Regex) (text : List ℕ) (limit : Option ℕ) (write : List ℕ → List ℕ → List ℕ)
-    (result : Result (CowStr Global) Error) (q : Regex) : Type 0 where
+-- A replacement of the first so many matches of a matcher, or of all, by what is written for each, answered this, and left
+-- the matcher so.
+pub record IsReplacement (r : Matcher) (text : List ℕ) (limit : Option ℕ) (write : List ℕ → List ℕ → List ℕ)
+    (result : Result (CowStr Global) Error) (q : Matcher) : Type 0 where
   pub promise : (i : Input) (o : plain.RunOptions) → IsRegexOf i text o r → Replaces i o text limit write result
   pub before : (i : Input) (o : plain.RunOptions) → IsRegexOf i text o r →
       IfOk result (λ v. KeepsBefore i o text (cow_str_bytes v))
@@ -68,8 +68,8 @@ pub record IsReplacement (r : Regex) (text : List ℕ) (limit : Option ℕ) (wri
 
 -- The same, appended to an output that holds texts so. The answer says whether a match was replaced, and nothing is appended
 -- where none was.
-pub record IsReplacedInto {O : Type 0} (holds : O → ℕ → List ℕ → Type 0) (r : Regex) (text : List ℕ) (limit : Option ℕ)
-    (write : List ℕ → List ℕ → List ℕ) (out : O) (result : Result Bool Error) (q : Regex) (new : O) : Type 0 where
+pub record IsReplacedInto {O : Type 0} (holds : O → ℕ → List ℕ → Type 0) (r : Matcher) (text : List ℕ) (limit : Option ℕ)
+    (write : List ℕ → List ℕ → List ℕ) (out : O) (result : Result Bool Error) (q : Matcher) (new : O) : Type 0 where
   pub promise : (i : Input) (o : plain.RunOptions) → IsRegexOf i text o r → MatchResult result
       (λ is_replaced. AppendsReplaced holds out i o text limit write is_replaced new)
       (λ e. FailsAfter i o text limit e ⊎ (e ≡ Memory))

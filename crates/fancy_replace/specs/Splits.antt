@@ -6,8 +6,8 @@ use Rattle.fancy_meaning.specs.Premises.{Input, plan}
 use Rattle.fancy_expr.specs.declared.error.Error.{Error}
 use Rattle.fancy_steps.specs.SearchLimits.{EndsBy}
 use Rattle.fancy_matches.specs.Listing.{ComesTo, PiecesJoin, all_matches, all_spans, at_start, in_turn, part}
-use Rattle.fancy_matches.specs.Regexes.{FailsBy, IsNoLimitWhereEasy, IsRegexOf, IsSame, passed_in, standing_of}
-use Rattle.fancy_matches.specs.declared.regexes.Regex.{Regex}
+use Rattle.fancy_matches.specs.Matchers.{FailsBy, IsNoLimitWhereEasy, IsRegexOf, IsSame, passed_in, standing_of}
+use Rattle.fancy_matches.specs.declared.matcher.Matcher.{Matcher}
 use Rattle.fancy_replace.specs.Pieces.{at_most_pieces, pieces_between}
 use Rattle.fancy_replace.specs.Steps.{IsAhead, cuts_left, places_left}
 use Rattle.fancy_replace.specs.declared.pieces.Pieces.{Pieces}
@@ -41,14 +41,14 @@ module _ (i : Input) (o : plain.RunOptions) where
   StepsToPiece shown s (Some (Err e)) t =
       FailsBy i (text_of s) o (standing_of s.cuts.standing) e × (pieces_left t ≡ [])
 
--- The search for a piece passed no limit inside easy parts, or answers `Memory`; or none was made, and the regex is as it
+-- The search for a piece passed no limit inside easy parts, or answers `Memory`; or none was made, and the matcher is as it
 -- was.
-abbrev pub StaysInPiece : {P : Type 0} → Regex → Option (Result P Error) → Regex → Type 0
+abbrev pub StaysInPiece : {P : Type 0} → Matcher → Option (Result P Error) → Matcher → Type 0
 StaysInPiece r (Some (Err e)) q = EndsBy e (passed_in q)
 StaysInPiece r item q = (passed_in q ≡ None) ⊎ (q ≡ r)
 
--- so it steps by this regex, whatever that was compiled from, and text and regex stay
-pub record GivesPiece {P : Type 0} (shown : P → List ℕ) (r : Regex) (s : Pieces) (item : Option (Result P Error)) (q : Regex)
+-- so it steps by this matcher, whatever that was compiled from, and text and matcher stay
+pub record GivesPiece {P : Type 0} (shown : P → List ℕ) (r : Matcher) (s : Pieces) (item : Option (Result P Error)) (q : Matcher)
     (t : Pieces) : Type 0 where
   pub steps : (i : Input) (o : plain.RunOptions) → IsRegexOf i (text_of s) o r → StepsToPiece i o shown s item t
   pub easy : IfSome item (λ found. IfErr found (IsNoLimitWhereEasy r (text_of s)))
@@ -56,12 +56,12 @@ pub record GivesPiece {P : Type 0} (shown : P → List ℕ) (r : Regex) (s : Pie
   pub same : IsSame r q
   pub stays : StaysInPiece r item q
 
--- what is left to its regex lies ahead
-abbrev pub CanGoOn : Regex → Pieces → Type 0
+-- what is left to its matcher lies ahead
+abbrev pub CanGoOn : Matcher → Pieces → Type 0
 CanGoOn r s = IsAhead r s.cuts
 
--- over this text, before the first match, all these pieces are left to the regex
-pub record HasPieces (r : Regex) (text : List ℕ) (all : Input → plain.RunOptions → List (List ℕ)) (s : Pieces) :
+-- over this text, before the first match, all these pieces are left to the matcher
+pub record HasPieces (r : Matcher) (text : List ℕ) (all : Input → plain.RunOptions → List (List ℕ)) (s : Pieces) :
     Type 0 where
   pub pieces : (i : Input) (o : plain.RunOptions) → IsRegexOf i text o r → pieces_left i o s ≡ all i o
   pub within : text_of s ≡ text
@@ -70,18 +70,18 @@ pub record HasPieces (r : Regex) (text : List ℕ) (all : Input → plain.RunOpt
 
 -- ---- iterators
 
--- it holds this regex, and all these pieces of the text are left
-pub record BeginsSplit (r : MutBor Regex) (text : List ℕ) (all : Input → plain.RunOptions → List (List ℕ)) (s : Split) :
+-- it holds this matcher, and all these pieces of the text are left
+pub record BeginsSplit (r : MutBor Matcher) (text : List ℕ) (all : Input → plain.RunOptions → List (List ℕ)) (s : Split) :
     Type 0 where
-  pub regex : s.regex.now ≡ r.now
-  pub name : s.regex.ghost_name ≡ r.ghost_name
+  pub matcher : s.matcher.now ≡ r.now
+  pub name : s.matcher.ghost_name ≡ r.ghost_name
   pub pieces : HasPieces r.now text all s.pieces
-  pub can : CanGoOn s.regex.now s.pieces
+  pub can : CanGoOn s.matcher.now s.pieces
 
--- so a call of the iterator steps, and its regex is lent by the same caller
+-- so a call of the iterator steps, and its matcher is lent by the same caller
 pub record NextPiece {P : Type 0} (shown : P → List ℕ) (s : Split) (item : Option (Result P Error)) (t : Split) : Type 0 where
-  pub gives : GivesPiece shown s.regex.now s.pieces item t.regex.now t.pieces
-  pub name : t.regex.ghost_name ≡ s.regex.ghost_name
+  pub gives : GivesPiece shown s.matcher.now s.pieces item t.matcher.now t.pieces
+  pub name : t.matcher.ghost_name ≡ s.matcher.ghost_name
 
 -- ---- the pieces of a whole text
 
@@ -94,12 +94,12 @@ abbrev pub most_pieces : List ℕ → ℕ → Input → plain.RunOptions → Lis
 most_pieces text limit i o = at_most_pieces text limit (all_matches (plan i) text o)
 
 -- these pieces and the matches in turn are the text
-abbrev pub PiecesAndMatchesJoin : Regex → List ℕ → Type 0
+abbrev pub PiecesAndMatchesJoin : Matcher → List ℕ → Type 0
 PiecesAndMatchesJoin r text =
     (i : Input) (o : plain.RunOptions) → IsRegexOf i text o r → PiecesJoin text (all_spans (plan i) text o)
 
 -- and at most so many of them, with the matches between them
-abbrev pub MostPiecesJoin : Regex → List ℕ → ℕ → Type 0
+abbrev pub MostPiecesJoin : Matcher → List ℕ → ℕ → Type 0
 MostPiecesJoin r text limit =
     (i : Input) (o : plain.RunOptions) → IsRegexOf i text o r → 0 < limit →
     in_turn (most_pieces text limit i o) (map (part text) (take (limit - 1) (all_spans (plan i) text o))) ≡ text

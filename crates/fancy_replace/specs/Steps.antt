@@ -7,8 +7,8 @@ use Rattle.fancy_meaning.specs.Premises.{Input, IsSpan, plan}
 use Rattle.fancy_expr.specs.declared.error.Error.{Error}
 use Rattle.fancy_steps.specs.Outcomes.{first_pair}
 use Rattle.fancy_matches.specs.Listing.{ComesTo, at_start}
-use Rattle.fancy_matches.specs.Regexes.{FailsBy, IsNoLimitWhereEasy, IsRegexOf, IsSame, StaysIn, captures_text, left_of, numbers_in, passed_in, standing_of}
-use Rattle.fancy_matches.specs.declared.regexes.Regex.{Regex}
+use Rattle.fancy_matches.specs.Matchers.{FailsBy, IsNoLimitWhereEasy, IsRegexOf, IsSame, StaysIn, captures_text, left_of, numbers_in, passed_in, standing_of}
+use Rattle.fancy_matches.specs.declared.matcher.Matcher.{Matcher}
 use Rattle.fancy_replace.specs.Pieces.{take_limit}
 use Rattle.fancy_replace.specs.declared.cuts.Cut.{Cut}
 use Rattle.fancy_replace.specs.declared.cuts.Cuts.{Cuts}
@@ -62,20 +62,20 @@ abbrev pub IsFurther : Cuts → Result (Option Cut) Error → Cuts → Type 0
 IsFurther s (Ok (Some c)) t = places_left t < places_left s
 IsFurther s found t = Unit {0}
 
--- what is left to a regex lies ahead
-pub record IsAhead (r : Regex) (s : Cuts) : Type 0 where
+-- what is left to a matcher lies ahead
+pub record IsAhead (r : Matcher) (s : Cuts) : Type 0 where
   pub place : IsAtPlace s
   pub spans : (i : Input) (o : plain.RunOptions) → IsRegexOf i s.text.now o r →
       AreAhead s.text.now s.from (map first_pair (all_left i o s))
 
 -- The search for it passed no limit inside easy parts, or answers `Memory`; where no more matches are gone through, there
 -- is none.
-abbrev pub StaysInCut : Cuts → Result (Option Cut) Error → Regex → Type 0
+abbrev pub StaysInCut : Cuts → Result (Option Cut) Error → Matcher → Type 0
 StaysInCut s (Ok None) q = ¬ (s.limit ≡ Some 0) → passed_in q ≡ None
 StaysInCut s found q = StaysIn found q
 
--- the next match is found by this regex, and text and regex stay
-pub record NextCut (r : Regex) (s : Cuts) (found : Result (Option Cut) Error) (q : Regex) (t : Cuts) : Type 0 where
+-- the next match is found by this matcher, and text and matcher stay
+pub record NextCut (r : Matcher) (s : Cuts) (found : Result (Option Cut) Error) (q : Matcher) (t : Cuts) : Type 0 where
   pub steps : (i : Input) (o : plain.RunOptions) → IsRegexOf i s.text.now o r → StepsToCut i o s found t
   pub easy : IfErr found (IsNoLimitWhereEasy r s.text.now)
   pub within : t.text.now ≡ s.text.now
@@ -90,4 +90,4 @@ pub record HasAllCuts (text : List ℕ) (most : Option ℕ) (s : Cuts) : Type 0 
   pub from : s.from ≡ 0
   pub limit : s.limit ≡ most
   pub first : standing_of s.standing ≡ at_start
-  pub ahead : (r : Regex) → IsAhead r s
+  pub ahead : (r : Matcher) → IsAhead r s

@@ -4,7 +4,7 @@ ghost use Rattle.std.specs.Prelude.{◌≡◌, ◌-◌, ◌↔◌, IsTrue, Some,
 
 use fancy_expr::error::Error;
 use fancy_matches::found::Captures;
-use fancy_matches::regexes::Regex;
+use fancy_matches::matcher::Matcher;
 use fancy_matches::standing::Standing;
 
 /// A match, and the piece before it, from where the last match ended.
@@ -40,15 +40,15 @@ impl<'t> Cuts<'t> {
     }
 
     /// The next match, or none where none is left.
-    pub(crate) fn next(&mut self, regex: &mut Regex) -> Result<Option<Cut<'t>>, Error>
-        requires { IsAhead regex.old self.old }
-        ensures next { NextCut regex.old self.old result regex.new self.new }
-        ensures ahead { IsAhead regex.new self.new }
+    pub(crate) fn next(&mut self, matcher: &mut Matcher) -> Result<Option<Cut<'t>>, Error>
+        requires { IsAhead matcher.old self.old }
+        ensures next { NextCut matcher.old self.old result matcher.new self.new }
+        ensures ahead { IsAhead matcher.new self.new }
     {
         if is_spent(self.limit) {
             return Ok(None);
         }
-        match regex.next_captures(self.text, &mut self.standing) {
+        match matcher.next_captures(self.text, &mut self.standing) {
             None => Ok(None),
             Some(Err(error)) => Err(error),
             Some(Ok(captures)) => {

@@ -1,7 +1,7 @@
 //! Replacements that are made of texts and groups.
 
 ghost use Rattle.std.specs.Prelude.{◌≡◌, OnOk};
-ghost use Rattle.fancy_matches.specs.Regexes.{captures_text, numbers_in};
+ghost use Rattle.fancy_matches.specs.Matchers.{captures_text, numbers_in};
 ghost use Rattle.fancy_replace.specs.Outputs.{Grows};
 ghost use Rattle.fancy_replace.specs.Parts as parts;
 

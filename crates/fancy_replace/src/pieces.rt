@@ -2,13 +2,13 @@
 
 ghost use Rattle.std.specs.Iterator.{at_most};
 ghost use Rattle.std.specs.Prelude.{◌<◌, IfSome};
-ghost use Rattle.fancy_matches.specs.declared.regexes.Regex as compiled_regex;
+ghost use Rattle.fancy_matches.specs.declared.matcher.Matcher as compiled_regex;
 
 use crate::cuts::Cuts;
 use fancy_expr::error::Error;
-use fancy_matches::regexes::Regex;
+use fancy_matches::matcher::Matcher;
 
-/// What is left of a text that is split. The regex is handed to each call of `next`, and so is not borrowed meanwhile.
+/// What is left of a text that is split. The matcher is handed to each call of `next`, and so is not borrowed meanwhile.
 #[derive(Drop)]
 pub struct Pieces<'t> {
     pub(crate) cuts: Cuts<'t>,
@@ -20,9 +20,9 @@ impl<'t> Pieces<'t> {
 
     /// All pieces of the text: one more than it has matches.
     pub fn all(text: &'t str) -> Pieces<'t>
-        ensures pieces { (r : compiled_regex.Regex)
+        ensures pieces { (r : compiled_regex.Matcher)
             → HasPieces r text.now (all_pieces text.now) result }
-        ensures join { (r : compiled_regex.Regex) → PiecesAndMatchesJoin r text.now }
+        ensures join { (r : compiled_regex.Matcher) → PiecesAndMatchesJoin r text.now }
     {
         Pieces {
             cuts: Cuts::new(text, None),
@@ -33,9 +33,9 @@ impl<'t> Pieces<'t> {
     /// At most `limit` pieces of the text. The last of them is the rest of the text, with the matches in it. There are
     /// none if `limit` is 0.
     pub fn at_most(text: &'t str, limit: usize) -> Pieces<'t>
-        ensures pieces { (r : compiled_regex.Regex)
+        ensures pieces { (r : compiled_regex.Matcher)
             → HasPieces r text.now (most_pieces text.now limit) result }
-        ensures join { (r : compiled_regex.Regex) → MostPiecesJoin r text.now limit }
+        ensures join { (r : compiled_regex.Matcher) → MostPiecesJoin r text.now limit }
     {
         Pieces {
             cuts: Cuts::new(text, Some(limit.saturating_sub(1))),
@@ -43,16 +43,16 @@ impl<'t> Pieces<'t> {
         }
     }
 
-    /// The next piece, or `None` after the last. Each call gets the regex that the first one got; the caller proves
+    /// The next piece, or `None` after the last. Each call gets the matcher that the first one got; the caller proves
     /// this.
     ///
     /// # Errors
     ///
-    /// Those of a search, as an item; see `Regex` of fancy_matches. It is the last item.
-    pub fn next(&mut self, regex: &mut Regex) -> Option<Result<&'t str, Error>>
-        requires { CanGoOn regex.old self.old }
-        ensures gives { GivesPiece (λ piece. piece.now) regex.old self.old result regex.new self.new }
-        ensures can { CanGoOn regex.new self.new }
+    /// Those of a search, as an item; see `Matcher` of fancy_matches. It is the last item.
+    pub fn next(&mut self, matcher: &mut Matcher) -> Option<Result<&'t str, Error>>
+        requires { CanGoOn matcher.old self.old }
+        ensures gives { GivesPiece (λ piece. piece.now) matcher.old self.old result matcher.new self.new }
+        ensures can { CanGoOn matcher.new self.new }
         ensures further { IfSome
             result
             (λ item. pieces_remaining self.new < pieces_remaining self.old) }
@@ -60,7 +60,7 @@ impl<'t> Pieces<'t> {
         if self.has_ended {
             return None;
         }
-        match self.cuts.next(regex) {
+        match self.cuts.next(matcher) {
             Ok(Some(cut)) => Some(Ok(cut.piece)),
             Ok(None) => {
                 self.has_ended = true;
@@ -75,14 +75,14 @@ impl<'t> Pieces<'t> {
 }
 
 /// The pieces of a text between its matches, from left to right; [`split`](crate::split::split) and `splitn` make it.
-/// It borrows the regex.
+/// It borrows the matcher.
 ///
 /// # Errors
 ///
-/// Those of a search, as an item; see `Regex` of fancy_matches. It is the last item.
+/// Those of a search, as an item; see `Matcher` of fancy_matches. It is the last item.
 #[derive(Drop)]
 pub struct Split<'r, 't> {
-    pub(crate) regex: &'r mut Regex,
+    pub(crate) matcher: &'r mut Matcher,
     pub(crate) pieces: Pieces<'t>,
 }
 
@@ -91,13 +91,13 @@ impl<'r, 't> Iterator for Split<'r, 't> {
 
     type Item = Result<&'t str, Error>;
 
-    ghost can_next = { λ s. CanGoOn s.regex.now s.pieces };
+    ghost can_next = { λ s. CanGoOn s.matcher.now s.pieces };
 
     ghost next_gives = { NextPiece (λ piece. piece.now) };
 
     ghost remaining = { λ s. at_most (pieces_remaining s.pieces) };
 
     fn next(&mut self) -> Option<Result<&'t str, Error>> {
-        self.pieces.next(self.regex)
+        self.pieces.next(self.matcher)
     }
 }

@@ -1,7 +1,7 @@
 //! Replaces matches.
 
 ghost use Rattle.std.specs.Prelude.{◌≡◌, ◌++◌, OnOk, Some, None};
-ghost use Rattle.fancy_matches.specs.Regexes.{captures_text, numbers_in};
+ghost use Rattle.fancy_matches.specs.Matchers.{captures_text, numbers_in};
 ghost use Rattle.fancy_replace.specs.Outputs.{Grows};
 ghost use Rattle.fancy_replace.specs.Pieces.{as_limit};
 ghost use Rattle.fancy_replace.specs.Replacements.{IsReplacedInto, IsReplacement};
@@ -10,7 +10,7 @@ use crate::cuts::{Cut, Cuts};
 use crate::output::Output;
 use crate::replacer::Replacer;
 use fancy_expr::error::Error;
-use fancy_matches::regexes::Regex;
+use fancy_matches::matcher::Matcher;
 use std::alloc::{AllocError, Global};
 use std::borrow::CowStr;
 
@@ -18,17 +18,17 @@ use std::borrow::CowStr;
 ///
 /// # Errors
 ///
-/// Those of a search; see `Regex` of fancy_matches. `Memory` also if the new text cannot be allocated.
+/// Those of a search; see `Matcher` of fancy_matches. `Memory` also if the new text cannot be allocated.
 pub fn replace<'t, R: Replacer>(
     alloc: Global,
-    regex: &mut Regex,
+    matcher: &mut Matcher,
     text: &'t str,
     replacement: &R,
 ) -> Result<CowStr<'t, Global>, Error>
     ensures { IsReplacement
-        regex.old text.now (Some 1) (R.replacement_text replacement.now) result regex.new }
+        matcher.old text.now (Some 1) (R.replacement_text replacement.now) result matcher.new }
 {
-    replacen(alloc, regex, text, 1, replacement)
+    replacen(alloc, matcher, text, 1, replacement)
 }
 
 /// Returns the text with all its matches replaced, or the text itself if it has no match. The matches are those of
@@ -41,18 +41,18 @@ pub fn replace<'t, R: Replacer>(
 /// # Examples
 ///
 /// ```
-/// let text = replace_all(alloc, &mut comma, "a, b,c", &NoExpand("; "))?; // "a; b; c", of the regex `, *`
+/// let text = replace_all(alloc, &mut comma, "a, b,c", &NoExpand("; "))?; // "a; b; c", of the matcher `, *`
 /// ```
 pub fn replace_all<'t, R: Replacer>(
     alloc: Global,
-    regex: &mut Regex,
+    matcher: &mut Matcher,
     text: &'t str,
     replacement: &R,
 ) -> Result<CowStr<'t, Global>, Error>
     ensures { IsReplacement
-        regex.old text.now None (R.replacement_text replacement.now) result regex.new }
+        matcher.old text.now None (R.replacement_text replacement.now) result matcher.new }
 {
-    replacen(alloc, regex, text, 0, replacement)
+    replacen(alloc, matcher, text, 0, replacement)
 }
 
 /// Returns the text with its first `limit` matches replaced, or all of them if `limit` is 0. It is the text itself if
@@ -63,16 +63,16 @@ pub fn replace_all<'t, R: Replacer>(
 /// Those of [`replace`].
 pub fn replacen<'t, R: Replacer>(
     alloc: Global,
-    regex: &mut Regex,
+    matcher: &mut Matcher,
     text: &'t str,
     limit: usize,
     replacement: &R,
 ) -> Result<CowStr<'t, Global>, Error>
     ensures { IsReplacement
-        regex.old text.now (as_limit limit) (R.replacement_text replacement.now) result regex.new }
+        matcher.old text.now (as_limit limit) (R.replacement_text replacement.now) result matcher.new }
 {
     let mut out = String::new(alloc);
-    let is_replaced = replace_into(regex, text, limit, replacement, &mut out)?;
+    let is_replaced = replace_into(matcher, text, limit, replacement, &mut out)?;
     if !is_replaced {
         return Ok(CowStr::Borrowed(text));
     }
@@ -86,7 +86,7 @@ pub fn replacen<'t, R: Replacer>(
 ///
 /// Those of [`replace`]. A part of the text may then have been appended.
 pub fn replace_into<R: Replacer, O: Output>(
-    regex: &mut Regex,
+    matcher: &mut Matcher,
     text: &str,
     limit: usize,
     replacement: &R,
@@ -94,18 +94,18 @@ pub fn replace_into<R: Replacer, O: Output>(
 ) -> Result<bool, Error>
     ensures { IsReplacedInto
         O.holds
-        regex.old
+        matcher.old
         text.now
         (as_limit limit)
         (R.replacement_text replacement.now)
         out.old
         result
-        regex.new
+        matcher.new
         out.new }
 {
     let mut cuts = Cuts::new(text, limit_of(limit));
     let mut is_replaced = false;
-    'matches: while let Some(cut) = cuts.next(regex)? {
+    'matches: while let Some(cut) = cuts.next(matcher)? {
         append(&cut, replacement, out)?;
         is_replaced = true;
     }

@@ -9,7 +9,7 @@ use std::alloc::AllocError;
 
 /// What replaces a match: a text ([`NoExpand`]), `Parts`, or a `Template`.
 pub trait Replacer {
-    ghost use Rattle.fancy_matches.specs.Regexes.{captures_text, numbers_in};
+    ghost use Rattle.fancy_matches.specs.Matchers.{captures_text, numbers_in};
 
     // What it writes, by the text and the start and end of each group of the match.
     ghost replacement_text: { Self → List ℕ → List ℕ → List ℕ };

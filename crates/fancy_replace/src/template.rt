@@ -5,7 +5,7 @@ ghost use Rattle.std.specs.Char.{is_ascii_digit};
 ghost use Rattle.std.specs.List.{list_all};
 ghost use Rattle.std.specs.Str.Parse.{digits_value};
 ghost use Rattle.fancy_analysis.specs.Names.{names_of};
-ghost use Rattle.fancy_matches.specs.Regexes.{captures_text, numbers_in};
+ghost use Rattle.fancy_matches.specs.Matchers.{captures_text, numbers_in};
 ghost use Rattle.fancy_replace.specs.Outputs.{Grows};
 ghost use Rattle.fancy_replace.specs.Reading as reading;
 ghost use Rattle.fancy_replace.specs.Templates as templates;
@@ -17,14 +17,14 @@ use fancy_matches::found::Captures;
 use std::alloc::{AllocError, Global};
 use std::collections::BTreeMap;
 
-/// A replacement that is read from a text with references to groups. The syntax is that of the crate `regex`:
+/// A replacement that is read from a text with references to groups. The syntax is that of the crate `matcher`:
 ///
 /// - `$$` writes a dollar.
 /// - `$1` and `$name` write what a group matched; the name is the longest run of `[0-9A-Za-z_]`.
 /// - `${1}` and `${name}` do too; the name is all that is before the first `}`.
 /// - Any other `$` writes a dollar, also that of `${` if no `}` follows.
 ///
-/// Digits alone are the number of a group, and 0 is the match. All else is a name, also `+1`, which `regex` reads as a
+/// Digits alone are the number of a group, and 0 is the match. All else is a name, also `+1`, which `matcher` reads as a
 /// number. If several groups have the name, the first that is set is meant. A group that is not there, or not set,
 /// writes nothing.
 #[derive(Debug)]
@@ -55,7 +55,7 @@ impl Template {
     ///
     /// ```
     /// let template = Template::new(alloc, "${year}-$2", &tree.named_groups)?;
-    /// let text = replace_all(alloc, &mut regex, "11/2026", &template)?;
+    /// let text = replace_all(alloc, &mut matcher, "11/2026", &template)?;
     /// ```
     pub fn new(
         alloc: Global,

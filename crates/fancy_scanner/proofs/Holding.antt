@@ -7,7 +7,7 @@ use Rattle.fancy_meaning.specs.Nodes.{group_count}
 use Rattle.fancy_meaning.specs.Premises.{plan}
 use Rattle.fancy_steps.specs.Outcomes.{first_pair}
 use Rattle.fancy_matches.specs.Listing.{begun_at}
-use Rattle.fancy_matches.specs.Regexes.{FindsCaptures, shown_captures, with_numbers}
+use Rattle.fancy_matches.specs.Matchers.{FindsCaptures, shown_captures, with_numbers}
 use Rattle.fancy_matches.specs.declared.found.Captures.{Captures}
 use Rattle.fancy_starts.specs.Matches.{Found, match_of}
 use Rattle.fancy_starts.proofs.Matches.{answer_is, no_answer_later, numbers_begin, numbers_of, same_answer_later}

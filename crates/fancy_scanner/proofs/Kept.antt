@@ -6,14 +6,14 @@ use Rattle.std.proofs.lemmas.Bool.{true≢false}
 use Rattle.std.proofs.lemmas.Bool.Decides.{eqb_tells}
 use Rattle.std.proofs.lemmas.Option.{none-some, same_Some}
 use Rattle.fancy_matches.specs.Listing.{begun_at}
-use Rattle.fancy_matches.specs.Regexes.{FindsCaptures}
+use Rattle.fancy_matches.specs.Matchers.{FindsCaptures}
 use Rattle.fancy_scanner.specs.Kept.{answer_start, found_in, kept_captures}
 use Rattle.fancy_scanner.specs.Lasting.{holds_at}
 use Rattle.fancy_scanner.specs.Scanning.{IsRuleAt, IsScannerOf, KeepsTrees, Rule, lasting_at, trees_of}
 use Rattle.fancy_scanner.specs.Scans.{AreAnswersOf, GoesOn, HasRoom, KeepsLoans, IsAnswerOf, IsScanOf, KeepsHeld, answers_of, holds_for, is_held, text_of}
 use Rattle.fancy_scanner.specs.declared.answers.Answer.{Answer}
 use Rattle.fancy_scanner.specs.declared.lasting.Lasting.{Lasting}
-use Rattle.fancy_scanner.specs.declared.scan_text.ScanText.{ScanText}
+use Rattle.fancy_scanner.specs.declared.scan_text.TreeScan.{TreeScan}
 use Rattle.fancy_scanner.proofs.Holding.{kept_holds}
 use Rattle.fancy_scanner.proofs.Reading.{get_other}
 use Rattle.fancy_scanner.proofs.Rules.{keeps_itself, keeps_twice, lasting_of, same_rule}
@@ -68,14 +68,14 @@ module _ (text : List ℕ) where
 -- ---- what is held
 
 -- what is kept of a tree and holds here
-pub record Held (s : ScanText) (k pos : ℕ) : Type 0 where
+pub record Held (s : TreeScan) (k pos : ℕ) : Type 0 where
   pub lasting : Lasting
   pub answer : Answer
   pub lasts : lasting_at s.scanner.now k ≡ Some lasting
   pub kept : slice_get (answers_of s) k ≡ Some (Some answer)
   pub holds : holds_at lasting answer.from (answer_start answer) pos ≡ true
 
-pub held : (s : ScanText) (k pos : ℕ) → is_held s k pos ≡ true → Held s k pos
+pub held : (s : TreeScan) (k pos : ℕ) → is_held s k pos ≡ true → Held s k pos
 held s k pos e = go (lasting_at s.scanner.now k) (slice_get (answers_of s) k) refl refl e
   where
     go : (l : Option Lasting) (a : Option (Option Answer)) → lasting_at s.scanner.now k ≡ l → slice_get (answers_of s) k ≡ a →
@@ -88,7 +88,7 @@ held s k pos e = go (lasting_at s.scanner.now k) (slice_get (answers_of s) k) re
     go None None lasts kept h = absurd (true≢false (sym h))
 
 -- it is what a search for the rule answers from here on
-pub held_answers : (s : ScanText) (k pos : ℕ) → is_held s k pos ≡ true → (rules : List Rule) (r : Rule) → IsScanOf rules s → IsRuleAt rules k r →
+pub held_answers : (s : TreeScan) (k pos : ℕ) → is_held s k pos ≡ true → (rules : List Rule) (r : Rule) → IsScanOf rules s → IsRuleAt rules k r →
     FindsCaptures r.input (text_of s) (begun_at r.options pos) (Ok (kept_captures (answers_of s) k))
 held_answers s k pos e rules r h at =
     let now = held s k pos e in
@@ -97,13 +97,13 @@ held_answers s k pos e rules r h at =
     (lasting_of (text_of s) rules (trees_of s.scanner.now) k r now.lasting h.scanner at now.lasts) now.holds)
 
 -- so it still is where the scan has the same trees and keeps what was held
-pub held_still : (s t u : ScanText) (pos : ℕ) → KeepsTrees s.scanner.now t.scanner.now → KeepsHeld pos s t → KeepsHeld pos t u → KeepsHeld pos s u
+pub held_still : (s t u : TreeScan) (pos : ℕ) → KeepsTrees s.scanner.now t.scanner.now → KeepsHeld pos s t → KeepsHeld pos t u → KeepsHeld pos s u
 held_still s t u pos trees h g = λ k e.
     let same = h k e in
     g k (ap₂ (λ l a. holds_for l a pos) (trees.lasting k) same ∙ e) ∙ same
 
 -- so it is where the answer of a tree is put that was not held
-pub put_held : (s : ScanText) (index pos : ℕ) (y : Option Answer) → is_held s index pos ≡ false → (k : ℕ) → is_held s k pos ≡ true →
+pub put_held : (s : TreeScan) (index pos : ℕ) (y : Option Answer) → is_held s index pos ≡ false → (k : ℕ) → is_held s k pos ≡ true →
     slice_get (slice_set (answers_of s) index y) k ≡ slice_get (answers_of s) k
 put_held s index pos y not_held k e = ⊎_elim
     (λ same. absurd (true≢false (sym e ∙ ap (λ j. is_held s j pos) same.1 ∙ not_held)))
@@ -116,13 +116,13 @@ get_before (z ∷ xs) ys zero x e = refl
 get_before (z ∷ xs) ys (suc k) x e = get_before xs ys k x e
 
 -- and where one place more is made
-pub room_held : (s : ScanText) (pos k : ℕ) → is_held s k pos ≡ true → slice_get (answers_of s ++ None ∷ []) k ≡ slice_get (answers_of s) k
+pub room_held : (s : TreeScan) (pos k : ℕ) → is_held s k pos ≡ true → slice_get (answers_of s ++ None ∷ []) k ≡ slice_get (answers_of s) k
 room_held s pos k e =
     let now = held s k pos e in get_before (answers_of s) (None ∷ []) k (Some now.answer) now.kept
 
 -- ---- what is left of a scan
 
-pub goes_itself : (s : ScanText) → GoesOn s s
+pub goes_itself : (s : TreeScan) → GoesOn s s
 goes_itself s = record {
   within = refl;
   trees = keeps_itself s.scanner.now;
@@ -131,10 +131,10 @@ goes_itself s = record {
   count = omega arith;
 }
 
-same_twice : (s t u : ScanText) → KeepsLoans s t → KeepsLoans t u → KeepsLoans s u
+same_twice : (s t u : TreeScan) → KeepsLoans s t → KeepsLoans t u → KeepsLoans s u
 same_twice s t u h g = record { scanner = g.scanner ∙ h.scanner; cache = g.cache ∙ h.cache }
 
-pub goes_twice : (s t u : ScanText) → GoesOn s t → GoesOn t u → GoesOn s u
+pub goes_twice : (s t u : TreeScan) → GoesOn s t → GoesOn t u → GoesOn s u
 goes_twice s t u h g = record {
   within = g.within ∙ h.within;
   trees = keeps_twice s.scanner.now t.scanner.now u.scanner.now h.trees g.trees;
@@ -143,11 +143,11 @@ goes_twice s t u h g = record {
   count = omega (arith, h.count, g.count);
 }
 
-pub room_left : (s t : ScanText) → GoesOn s t → HasRoom s → HasRoom t
+pub room_left : (s t : TreeScan) → GoesOn s t → HasRoom s → HasRoom t
 room_left s t h room = omega (arith, (h.trees).count, h.count, room)
 
 -- one place more, for the answer of a tree
-pub goes_on_room : (s t : ScanText) → text_of t ≡ text_of s → t.scanner ≡ s.scanner → t.cache.ghost_name ≡ s.cache.ghost_name →
+pub goes_on_room : (s t : TreeScan) → text_of t ≡ text_of s → t.scanner ≡ s.scanner → t.cache.ghost_name ≡ s.cache.ghost_name →
     answers_of t ≡ answers_of s ++ None ∷ [] → GoesOn s t
 goes_on_room s t within scanner cache more = record {
   within = within;
@@ -163,14 +163,14 @@ goes_on_room s t within scanner cache more = record {
 }
 
 -- places were made for answers, and what is held is kept
-pub record MakesRoom (s t : ScanText) : Type 0 where
+pub record MakesRoom (s t : TreeScan) : Type 0 where
   pub goes : GoesOn s t
   pub holds : (pos : ℕ) → KeepsHeld pos s t
 
-pub no_room_yet : (s : ScanText) → MakesRoom s s
+pub no_room_yet : (s : TreeScan) → MakesRoom s s
 no_room_yet s = record { goes = goes_itself s; holds = λ pos k e. refl }
 
-pub more_room : (s t u : ScanText) → MakesRoom s t → text_of u ≡ text_of t → u.scanner ≡ t.scanner →
+pub more_room : (s t u : TreeScan) → MakesRoom s t → text_of u ≡ text_of t → u.scanner ≡ t.scanner →
     u.cache.ghost_name ≡ t.cache.ghost_name → answers_of u ≡ answers_of t ++ None ∷ [] → MakesRoom s u
 more_room s t u h within scanner cache more = record {
   goes = goes_twice s t u h.goes (goes_on_room t u within scanner cache more);
@@ -179,7 +179,7 @@ more_room s t u h within scanner cache more = record {
 }
 
 -- an answer of a search for the tree with this number is kept in the place of the one before
-pub goes_on_answer : (s t : ScanText) (k : ℕ) (a : Answer) → text_of t ≡ text_of s → KeepsTrees s.scanner.now t.scanner.now →
+pub goes_on_answer : (s t : TreeScan) (k : ℕ) (a : Answer) → text_of t ≡ text_of s → KeepsTrees s.scanner.now t.scanner.now →
     KeepsLoans s t → answers_of t ≡ slice_set (answers_of s) k (Some a) →
     ((rules : List Rule) (r : Rule) → IsScannerOf rules (text_of s) s.scanner.now → IsRuleAt rules k r → IsAnswerOf (text_of s) r a) →
     GoesOn s t

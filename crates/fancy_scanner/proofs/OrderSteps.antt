@@ -6,7 +6,7 @@ use Rattle.std.proofs.lemmas.Option.{none-some, same_Some}
 use Rattle.fancy_expr.specs.declared.error.Error.{Error}
 use Rattle.fancy_expr.specs.declared.error.Error.TheVariants as error
 use Rattle.fancy_matches.specs.Listing.{begun_at}
-use Rattle.fancy_matches.specs.Regexes.{FindsCaptures, shown_match, span_of}
+use Rattle.fancy_matches.specs.Matchers.{FindsCaptures, shown_match, span_of}
 use Rattle.fancy_matches.specs.declared.found.Match.{Match}
 use Rattle.fancy_scanner.specs.Among.{ArePicked, answer_of, answers_among}
 use Rattle.fancy_scanner.specs.Kept.{found_in, kept_captures, shown_whole}
@@ -16,7 +16,7 @@ use Rattle.fancy_scanner.specs.Scans.{AreAnswersOf, GoesOn, HasRoom, IsScanOf, I
 use Rattle.fancy_scanner.specs.declared.answers.Answer.{Answer}
 use Rattle.fancy_scanner.specs.declared.lasting.Lasting.{Lasting}
 use Rattle.fancy_scanner.specs.declared.scan_limit.ScanLimit.{ScanLimit}
-use Rattle.fancy_scanner.specs.declared.scan_text.ScanText.{ScanText}
+use Rattle.fancy_scanner.specs.declared.scan_text.TreeScan.{TreeScan}
 use Rattle.fancy_scanner.specs.declared.scan_text.TreeMatch.{TreeMatch}
 use Rattle.fancy_scanner.specs.declared.scanner.ScanTree.{ScanTree}
 use Rattle.fancy_scanner.specs.declared.scanner.Stopped.{Stopped}
@@ -27,7 +27,7 @@ use Rattle.fancy_scanner.proofs.Passed.{TellsFrom, among_others, index_of, none_
 
 -- ---- what is kept, in the order
 
-slot_among : (s : ScanText) (order : List ℕ) (j k : ℕ) → slice_get order j ≡ Some k →
+slot_among : (s : TreeScan) (order : List ℕ) (j k : ℕ) → slice_get order j ≡ Some k →
     slice_get (answers_among s order) j ≡ Some (answer_of s k)
 slot_among s [] j k e = absurd (none-some k e)
 slot_among s (i ∷ order) zero k e = ap (λ x. Some (answer_of s x)) (same_Some i k e)
@@ -37,7 +37,7 @@ flat : (o : Option (Option Answer)) → found_in (option_and_then (λ a. a) o) �
 flat None = refl
 flat (Some a) = refl
 
-pub kept_among : (s : ScanText) (order : List ℕ) (j k : ℕ) → slice_get order j ≡ Some k →
+pub kept_among : (s : TreeScan) (order : List ℕ) (j k : ℕ) → slice_get order j ≡ Some k →
     kept_captures (answers_among s order) j ≡ kept_captures (answers_of s) k
 kept_among s order j k e = ap (option_and_then found_in) (slot_among s order j k e) ∙ flat (slice_get (answers_of s) k)
 
@@ -95,24 +95,24 @@ no_memory_among text pos rules (i ∷ order) (r ∷ picked) h some = here (tt, t
 
 module _ (pos : ℕ) (order : List ℕ) where
   -- the tree of a match, whose answer holds here, and whose groups are kept
-  pub record IsSeenMatch (s : ScanText) (m : TreeMatch) : Type 0 where
+  pub record IsSeenMatch (s : TreeScan) (m : TreeMatch) : Type 0 where
     pub tree : ℕ
     pub read : slice_get order m.index ≡ Some tree
     pub held : is_held s tree pos ≡ true
     pub whole : IsWholeIn (answers_among s order) m
 
-  abbrev pub IsSeenAmong : ScanText → Option TreeMatch → Type 0
+  abbrev pub IsSeenAmong : TreeScan → Option TreeMatch → Type 0
   IsSeenAmong s None = Unit {0}
   IsSeenAmong s (Some m) = IsSeenMatch s m
 
-  pub whole_among : (s : ScanText) (found : Option TreeMatch) → IsSeenAmong s found → IfSome found (IsWholeIn (answers_among s order))
+  pub whole_among : (s : TreeScan) (found : Option TreeMatch) → IsSeenAmong s found → IfSome found (IsWholeIn (answers_among s order))
   whole_among s None h = tt
   whole_among s (Some m) h = h.whole
 
-  module _ (before : ScanText) where
+  module _ (before : TreeScan) where
     -- The trees from this one of the order on were looked at: the scan goes on as before, and this is what the searches
     -- came to.
-    pub record AmongSoFar (s : ScanText) (count n : ℕ) (found : Option TreeMatch) (stopped : Option Stopped) : Type 0 where
+    pub record AmongSoFar (s : TreeScan) (count n : ℕ) (found : Option TreeMatch) (stopped : Option Stopped) : Type 0 where
       pub within : n ≤ length order
       pub counted : count ≡ length (trees_of s.scanner.now)
       pub room : HasRoom s
@@ -131,7 +131,7 @@ module _ (pos : ℕ) (order : List ℕ) where
       stops = refl;
     }
 
-    module _ (s t : ScanText) (count n : ℕ) (found : Option TreeMatch) (stopped : Option Stopped) (h : AmongSoFar s count n found stopped)
+    module _ (s t : TreeScan) (count n : ℕ) (found : Option TreeMatch) (stopped : Option Stopped) (h : AmongSoFar s count n found stopped)
         (some : 0 < n) (k : ℕ) (read : slice_get order (n - 1) ≡ Some k) (goes : GoesOn s t) (holds : KeepsHeld pos s t)
         (others : KeepsOthers k s t) (limits : (j : ℕ) → j ≢ k → passed_at t.scanner.now j ≡ passed_at s.scanner.now j) where
       same_past : AreDistinct order → (j : ℕ) → n ≤ j → passed_among pos order t j ≡ passed_among pos order s j
@@ -274,7 +274,7 @@ module _ (pos : ℕ) (order : List ℕ) where
             fails_at (text_of before) pos failed picked (n - 1) at.at (answered_so (Err failed) e rules picked at ((h.goes).still rules of))
 
     -- a number that no tree has is none of a rule
-    pub skipped_so : (s : ScanText) (count n : ℕ) (found : Option TreeMatch) (stopped : Option Stopped) → AmongSoFar s count n found stopped →
+    pub skipped_so : (s : TreeScan) (count n : ℕ) (found : Option TreeMatch) (stopped : Option Stopped) → AmongSoFar s count n found stopped →
         0 < n → (k : ℕ) → slice_get order (n - 1) ≡ Some k → count ≤ k → AmongSoFar s count (n - 1) found stopped
     skipped_so s count n found stopped h some k read past =
         let within = h.within in
@@ -335,7 +335,7 @@ get_taken (x ∷ xs) (suc n) zero lt = refl
 get_taken (x ∷ xs) (suc n) (suc k) lt = get_taken xs n k (omega (arith, lt))
 
 -- what is held of a tree stays where no more answers than trees are kept
-pub held_taken : (s : ScanText) (pos n k : ℕ) → n ≡ length (trees_of s.scanner.now) → is_held s k pos ≡ true →
+pub held_taken : (s : TreeScan) (pos n k : ℕ) → n ≡ length (trees_of s.scanner.now) → is_held s k pos ≡ true →
     slice_get (take n (answers_of s)) k ≡ slice_get (answers_of s) k
 held_taken s pos n k count e =
     let now = held s k pos e in

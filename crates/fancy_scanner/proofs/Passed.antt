@@ -7,16 +7,16 @@ use Rattle.fancy_search.specs.Scratches.{cost_of}
 use Rattle.fancy_steps.specs.SearchLimits.{passed_by}
 use Rattle.fancy_steps.specs.declared.search_limits.SearchLimit.{SearchLimit}
 use Rattle.fancy_steps.specs.declared.search_limits.SearchLimits.{SearchLimits}
-use Rattle.fancy_matches.specs.Regexes.{passed_in}
+use Rattle.fancy_matches.specs.Matchers.{passed_in}
 use Rattle.fancy_scanner.specs.Limits.{AreDistinct, IsToldUpTo, TellsPassed, passed_among, passed_at, passed_from, unless_held}
 use Rattle.fancy_scanner.specs.Scanning.{AreTreesOf, IsRuleAt, MayPass, Rule, search_limit, stopped_view, trees_of}
 use Rattle.fancy_scanner.specs.Scans.{GoesOn, KeepsOthers, holds_for, is_held}
 use Rattle.fancy_scanner.specs.declared.scan_limit.ScanLimit.{ScanLimit}
-use Rattle.fancy_scanner.specs.declared.scan_text.ScanText.{ScanText}
+use Rattle.fancy_scanner.specs.declared.scan_text.TreeScan.{TreeScan}
 use Rattle.fancy_scanner.specs.declared.scan_text.TreeMatch.{TreeMatch}
 use Rattle.fancy_scanner.specs.declared.scanner.ScanMatch.{ScanMatch}
 use Rattle.fancy_scanner.specs.declared.scanner.ScanTree.{ScanTree}
-use Rattle.fancy_scanner.specs.declared.scanner.Scanner.{Scanner}
+use Rattle.fancy_scanner.specs.declared.scanner.TreeScanner.{TreeScanner}
 use Rattle.fancy_scanner.specs.declared.scanner.Stopped.{Stopped}
 
 -- the number of a match's tree
@@ -106,9 +106,9 @@ get_past (x ∷ xs) zero le = absurd (omega (arith, le))
 get_past (x ∷ xs) (suc k) le = get_past xs k (omega (arith, le))
 
 abbrev pub passed_of : Option ScanTree → Option SearchLimit
-passed_of = option_and_then (λ x. passed_in x.regex)
+passed_of = option_and_then (λ x. passed_in x.matcher)
 
-pub none_past : (s : Scanner) (k : ℕ) → length (trees_of s) ≤ k → passed_at s k ≡ None
+pub none_past : (s : TreeScanner) (k : ℕ) → length (trees_of s) ≤ k → passed_at s k ≡ None
 none_past s k le = ap passed_of (get_past (trees_of s) k le)
 
 -- the tree of a rule passed a limit that the rule has
@@ -117,15 +117,15 @@ pub rule_passes : (text : List ℕ) (rules : List Rule) (xs : List ScanTree) (k 
 rule_passes text rules [] k r h at lt = absurd (omega (arith, lt))
 rule_passes text [] (x ∷ xs) k r h at lt = absurd h
 rule_passes text (q ∷ rules) (x ∷ xs) zero r h at lt =
-    subst (λ (p : Rule). MayPass p (passed_in x.regex)) (ap first_rule at)
-    (cost_of x.regex.scratch, ap (λ (l : SearchLimits). passed_by l (cost_of x.regex.scratch)) (sym (h.0).limits))
+    subst (λ (p : Rule). MayPass p (passed_in x.matcher)) (ap first_rule at)
+    (cost_of x.matcher.scratch, ap (λ (l : SearchLimits). passed_by l (cost_of x.matcher.scratch)) (sym (h.0).limits))
   where
     first_rule : List Rule → Rule
     first_rule [] = q
     first_rule (p ∷ ps) = p
 rule_passes text (q ∷ rules) (x ∷ xs) (suc k) r h at lt = rule_passes text rules xs k r h.1 at (omega (arith, lt))
 
-module _ (s t : Scanner) (n : ℕ) (some : 0 < n) (others : (k : ℕ) → k ≢ n - 1 → passed_at t k ≡ passed_at s k)
+module _ (s t : TreeScanner) (n : ℕ) (some : 0 < n) (others : (k : ℕ) → k ≢ n - 1 → passed_at t k ≡ passed_at s k)
     (found : Option ℕ) (stopped : Option Stopped) (h : TellsFrom n (passed_at s) found stopped) where
   past_it : (k : ℕ) → n ≤ k → passed_at t k ≡ passed_at s k
   past_it k le = let other : k ≢ n - 1 = omega (arith, le, some) in others k other
@@ -149,18 +149,18 @@ module _ (pos : ℕ) where
   unless_none true passed e = refl
   unless_none false passed e = e
 
-  pub none_past_in : (s : ScanText) (k : ℕ) → length (trees_of s.scanner.now) ≤ k → passed_from pos s k ≡ None
+  pub none_past_in : (s : TreeScan) (k : ℕ) → length (trees_of s.scanner.now) ≤ k → passed_from pos s k ≡ None
   none_past_in s k le = unless_none (is_held s k pos) (passed_at s.scanner.now k) (none_past s.scanner.now k le)
 
-  pub none_held : (s : ScanText) (k : ℕ) → is_held s k pos ≡ true → passed_from pos s k ≡ None
+  pub none_held : (s : TreeScan) (k : ℕ) → is_held s k pos ≡ true → passed_from pos s k ≡ None
   none_held s k e = ap (λ b. unless_held b (passed_at s.scanner.now k)) e
 
-  pub passed_stopped : (s : ScanText) (k : ℕ) (limit : ScanLimit) → is_held s k pos ≡ false → passed_at s.scanner.now k ≡ search_limit limit →
+  pub passed_stopped : (s : TreeScan) (k : ℕ) (limit : ScanLimit) → is_held s k pos ≡ false → passed_at s.scanner.now k ≡ search_limit limit →
       passed_from pos s k ≡ search_limit limit
   passed_stopped s k limit e is = ap (λ b. unless_held b (passed_at s.scanner.now k)) e ∙ is
 
   -- a search for one tree leaves what the others passed
-  module _ (s t : ScanText) (k : ℕ) (goes : GoesOn s t) (others : KeepsOthers k s t)
+  module _ (s t : TreeScan) (k : ℕ) (goes : GoesOn s t) (others : KeepsOthers k s t)
       (limits : (j : ℕ) → j ≢ k → passed_at t.scanner.now j ≡ passed_at s.scanner.now j) where
     pub passed_others : (j : ℕ) → j ≢ k → passed_from pos t j ≡ passed_from pos s j
     passed_others j ne = ap₂ unless_held (ap₂ (λ l a. holds_for l a pos) ((goes.trees).lasting j) (others j ne)) (limits j ne)
@@ -176,9 +176,9 @@ module _ (pos : ℕ) where
             ∙ (passed_others i (λ this. let twice = distinct j (n - 1) k (e ∙ ap Some this) read in absurd (omega (arith, twice, le, some)))
             ∙ sym (ap (option_and_then (passed_from pos s)) e))
 
-  pub none_past_order : (order : List ℕ) (s : ScanText) (j : ℕ) → length order ≤ j → passed_among pos order s j ≡ None
+  pub none_past_order : (order : List ℕ) (s : TreeScan) (j : ℕ) → length order ≤ j → passed_among pos order s j ≡ None
   none_past_order order s j le = ap (option_and_then (passed_from pos s)) (get_past order j le)
 
-  pub read_among : (order : List ℕ) (s : ScanText) (j k : ℕ) (passed : Option SearchLimit) → slice_get order j ≡ Some k →
+  pub read_among : (order : List ℕ) (s : TreeScan) (j k : ℕ) (passed : Option SearchLimit) → slice_get order j ≡ Some k →
       passed_from pos s k ≡ passed → passed_among pos order s j ≡ passed
   read_among order s j k passed read is = ap (option_and_then (passed_from pos s)) read ∙ is

@@ -8,9 +8,9 @@ use Rattle.fancy_steps.specs.SearchLimits.{no_limits, passed_by}
 use Rattle.fancy_steps.specs.declared.search_limits.SearchLimit.{SearchLimit}
 use Rattle.fancy_steps.specs.declared.search_limits.SearchLimits.{SearchLimits}
 use Rattle.fancy_matches.specs.Listing.{begun_at}
-use Rattle.fancy_matches.specs.Regexes.{FindsCaptures, IsSame, captures_text, numbers_in, shown_captures, with_numbers}
+use Rattle.fancy_matches.specs.Matchers.{FindsCaptures, IsSame, captures_text, numbers_in, shown_captures, with_numbers}
 use Rattle.fancy_matches.specs.declared.found.Captures.{Captures}
-use Rattle.fancy_matches.specs.declared.options.RegexOptions.{RegexOptions}
+use Rattle.fancy_matches.specs.declared.options.MatcherOptions.{MatcherOptions}
 use Rattle.fancy_matches.proofs.Easy.{no_limit}
 use Rattle.fancy_matches.proofs.Stepping.{of_same}
 use Rattle.fancy_scanner.specs.Scanning.{Rule, AreEasy, AreEasyRuns, AreTreesOf, EachReplies, FailsForOne, IsEasyRun, IsLastingFor, IsRuleAt, IsScannerOf, IsStoppedByDelegates, IsTreeOf, KeepsTrees, MayFail, MayPass, Replies, Reply, RuleMatch, answer_from, earlier, earliest, error_of, first_stopped, here, in_text, later, match_view, search_limit, stopped_view, trees_of}
@@ -20,7 +20,7 @@ use Rattle.fancy_scanner.specs.declared.scan_limit.ScanLimit.{ScanLimit}
 use Rattle.fancy_scanner.specs.declared.scan_limit.ScanLimit.TheVariants as limit
 use Rattle.fancy_scanner.specs.declared.scanner.ScanMatch.{ScanMatch}
 use Rattle.fancy_scanner.specs.declared.scanner.ScanTree.{ScanTree}
-use Rattle.fancy_scanner.specs.declared.scanner.Scanner.{Scanner}
+use Rattle.fancy_scanner.specs.declared.scanner.TreeScanner.{TreeScanner}
 use Rattle.fancy_scanner.specs.declared.scanner.Stopped.{Stopped}
 use Rattle.fancy_scanner.proofs.Passed.{TellsFrom, index_in}
 
@@ -65,16 +65,16 @@ module _ (text : List ℕ) where
 
   -- one tree is put in the place of the same one
   pub same_put : (rules : List Rule) (xs : List ScanTree) (k : ℕ) (x y : ScanTree) → AreTreesOf rules text xs →
-      x ≡ get_or xs k x → IsSame x.regex y.regex → y.lasting ≡ x.lasting → AreTreesOf rules text (slice_set xs k y)
+      x ≡ get_or xs k x → IsSame x.matcher y.matcher → y.lasting ≡ x.lasting → AreTreesOf rules text (slice_set xs k y)
   same_put [] [] k x y h e same lasts = tt
   same_put [] (z ∷ zs) k x y h e same lasts = absurd h
   same_put (r ∷ rules) [] k x y h e same lasts = absurd h
   same_put (r ∷ rules) (z ∷ zs) zero x y h e same lasts =
       let of : IsTreeOf r text x = subst (IsTreeOf r text) (sym e) h.0 in (
         record {
-          regex = of_same x.regex y.regex r.input text r.options same of.regex;
+          matcher = of_same x.matcher y.matcher r.input text r.options same of.matcher;
           lasting = subst (IsLastingFor r) (sym lasts) of.lasting;
-          limits = ap (λ (o : RegexOptions). o.limits) same.1 ∙ of.limits;
+          limits = ap (λ (o : MatcherOptions). o.limits) same.1 ∙ of.limits;
         },
         h.1,
       )
@@ -100,10 +100,10 @@ lasting_put (z ∷ zs) (suc i) x y e lasts (suc k) = lasting_put zs i x y e last
 
 -- ---- the same trees
 
-pub keeps_itself : (s : Scanner) → KeepsTrees s s
+pub keeps_itself : (s : TreeScanner) → KeepsTrees s s
 keeps_itself s = record { count = refl; lasting = λ k. refl; same = λ text rules h. h }
 
-pub keeps_twice : (s t u : Scanner) → KeepsTrees s t → KeepsTrees t u → KeepsTrees s u
+pub keeps_twice : (s t u : TreeScanner) → KeepsTrees s t → KeepsTrees t u → KeepsTrees s u
 keeps_twice s t u h g = record {
   count = g.count ∙ h.count;
   lasting = λ k. g.lasting k ∙ h.lasting k;
@@ -186,13 +186,13 @@ module _ (text : List ℕ) (pos : ℕ) where
   -- ---- from one tree to the one before
 
   -- The trees from number n on were searched for: the scanner has the same trees, and this is what the searches came to.
-  pub record ScanFrom (before s : Scanner) (n : ℕ) (found : Option ScanMatch) (stopped : Option Stopped) : Type 0 where
+  pub record ScanFrom (before s : TreeScanner) (n : ℕ) (found : Option ScanMatch) (stopped : Option Stopped) : Type 0 where
     pub within : n ≤ length (trees_of s)
     pub keeps : KeepsTrees before s
     pub tells : TellsFrom n (passed_at s) (index_in found) stopped
     pub scanned : (rules : List Rule) → IsScannerOf rules text before → IsScanFrom rules n found stopped
 
-  pub tree_before : (before s t : Scanner) (n : ℕ) (found found_now : Option ScanMatch) (stopped stopped_now : Option Stopped) →
+  pub tree_before : (before s t : TreeScanner) (n : ℕ) (found found_now : Option ScanMatch) (stopped stopped_now : Option Stopped) →
       ScanFrom before s n found stopped → 0 < n → KeepsTrees s t → TellsFrom (n - 1) (passed_at t) (index_in found_now) stopped_now →
       ((rules : List Rule) (at : RuleAt text rules (n - 1)) → IsScannerOf rules text s → IsScanFrom rules (suc (n - 1)) found stopped →
       IsScanFrom rules (n - 1) found_now stopped_now) →

@@ -6,7 +6,7 @@ use Rattle.fancy_expr.specs.declared.error.Error.{Error}
 use Rattle.fancy_expr.specs.declared.error.Error.TheVariants as error
 use Rattle.fancy_meaning.specs.MatchState.{Span}
 use Rattle.fancy_matches.specs.Listing.{begun_at}
-use Rattle.fancy_matches.specs.Regexes.{FindsCaptures, captures_text, numbers_in, shown_match, span_of}
+use Rattle.fancy_matches.specs.Matchers.{FindsCaptures, captures_text, numbers_in, shown_match, span_of}
 use Rattle.fancy_matches.specs.declared.found.Captures.{Captures}
 use Rattle.fancy_matches.specs.declared.found.Match.{Match}
 use Rattle.fancy_scanner.specs.Kept.{found_in, kept_captures, shown_whole}
@@ -15,7 +15,7 @@ use Rattle.fancy_scanner.specs.Limits.{passed_at, passed_from}
 use Rattle.fancy_scanner.specs.Scans.{GoesOn, HasRoom, IsScanOf, IsWholeIn, KeepsHeld, KeepsOthers, answers_of, captures_result, earlier_match, found_match, is_held, scan_match, text_of}
 use Rattle.fancy_scanner.specs.declared.answers.Answer.{Answer}
 use Rattle.fancy_scanner.specs.declared.scan_limit.ScanLimit.{ScanLimit}
-use Rattle.fancy_scanner.specs.declared.scan_text.ScanText.{ScanText}
+use Rattle.fancy_scanner.specs.declared.scan_text.TreeScan.{TreeScan}
 use Rattle.fancy_scanner.specs.declared.scan_text.TreeMatch.{TreeMatch}
 use Rattle.fancy_scanner.specs.declared.scanner.ScanMatch.{ScanMatch}
 use Rattle.fancy_scanner.specs.declared.scanner.ScanTree.{ScanTree}
@@ -34,7 +34,7 @@ whole_of answers n None h = tt
 whole_of answers n (Some m) h = h.1
 
 -- where the others keep theirs, and the matches are of others
-module _ (s t : ScanText) (k : ℕ) (others : KeepsOthers k s t) where
+module _ (s t : TreeScan) (k : ℕ) (others : KeepsOthers k s t) where
   pub seen_still : (n : ℕ) (found : Option TreeMatch) → k < n → IsSeen (answers_of s) n found → IsSeen (answers_of t) k found
   seen_still n None lt h = tt
   seen_still n (Some m) lt h =
@@ -177,9 +177,9 @@ no_memory text pos [] (x ∷ xs) h some = absurd h
 no_memory text pos (r ∷ rules) [] h some = absurd h
 no_memory text pos (r ∷ rules) (x ∷ xs) h some = here (tt, tt)
 
-module _ (pos : ℕ) (before : ScanText) where
+module _ (pos : ℕ) (before : TreeScan) where
   -- The trees from number n on were looked at: the scan goes on as before, and this is what the searches came to.
-  pub record ScanSoFar (s : ScanText) (n : ℕ) (found : Option TreeMatch) (stopped : Option Stopped) : Type 0 where
+  pub record ScanSoFar (s : TreeScan) (n : ℕ) (found : Option TreeMatch) (stopped : Option Stopped) : Type 0 where
     pub within : n ≤ length (trees_of s.scanner.now)
     pub room : HasRoom s
     pub goes : GoesOn before s
@@ -189,7 +189,7 @@ module _ (pos : ℕ) (before : ScanText) where
     pub scanned : (rules : List Rule) → IsScanOf rules before →
         IsScanFrom (text_of before) pos rules n (found_match (answers_of s) found) stopped
 
-  module _ (s t : ScanText) (n : ℕ) (found : Option TreeMatch) (stopped : Option Stopped) (h : ScanSoFar s n found stopped) (some : 0 < n)
+  module _ (s t : TreeScan) (n : ℕ) (found : Option TreeMatch) (stopped : Option Stopped) (h : ScanSoFar s n found stopped) (some : 0 < n)
       (goes : GoesOn s t) (holds : KeepsHeld pos s t) (others : KeepsOthers (n - 1) s t)
       (limits : (j : ℕ) → j ≢ n - 1 → passed_at t.scanner.now j ≡ passed_at s.scanner.now j) where
     same_past : (j : ℕ) → n ≤ j → passed_from pos t j ≡ passed_from pos s j

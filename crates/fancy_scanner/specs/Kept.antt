@@ -2,7 +2,7 @@
 use Rattle.std.specs.Prelude.{ℕ, List, Option, option_and_then, option_map, slice_get}
 use Rattle.fancy_meaning.specs.MatchState.{Span}
 use Rattle.fancy_steps.specs.Outcomes.{first_pair}
-use Rattle.fancy_matches.specs.Regexes.{captures_text, numbers_in}
+use Rattle.fancy_matches.specs.Matchers.{captures_text, numbers_in}
 use Rattle.fancy_matches.specs.declared.found.Captures.{Captures}
 use Rattle.fancy_scanner.specs.declared.answers.Answer.{Answer}
 

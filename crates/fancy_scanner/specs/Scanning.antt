@@ -17,8 +17,8 @@ use Rattle.fancy_steps.specs.declared.search_limits.SearchLimits.{SearchLimits}
 use Rattle.fancy_search.specs.Searches.{Bounds, Promises, input_of, instructions_of}
 use Rattle.fancy_search.specs.declared.search.SearchOptions.{SearchOptions}
 use Rattle.fancy_matches.specs.Listing.{backtracks_for, begun_at, options_for, steps_for}
-use Rattle.fancy_matches.specs.Regexes.{IsNoLimit, IsRegexOf, numbers_in, captures_text}
-use Rattle.fancy_matches.specs.declared.regexes.Regex.{Regex}
+use Rattle.fancy_matches.specs.Matchers.{IsNoLimit, IsRegexOf, numbers_in, captures_text}
+use Rattle.fancy_matches.specs.declared.matcher.Matcher.{Matcher}
 use Rattle.fancy_scanner.specs.Lasting.{IsLasting, is_anchored}
 use Rattle.fancy_scanner.specs.declared.lasting.Lasting.{Lasting}
 use Rattle.fancy_scanner.specs.declared.scan_limit.ScanLimit.{ScanLimit}
@@ -26,7 +26,7 @@ use Rattle.fancy_scanner.specs.declared.scan_limit.ScanLimit.TheVariants as limi
 use Rattle.fancy_scanner.specs.declared.scanner.Scan.{Scan}
 use Rattle.fancy_scanner.specs.declared.scanner.ScanMatch.{ScanMatch}
 use Rattle.fancy_scanner.specs.declared.scanner.ScanTree.{ScanTree}
-use Rattle.fancy_scanner.specs.declared.scanner.Scanner.{Scanner}
+use Rattle.fancy_scanner.specs.declared.scanner.TreeScanner.{TreeScanner}
 use Rattle.fancy_scanner.specs.declared.scanner.Stopped.{Stopped}
 
 -- a tree with how it was compiled, how it is searched for, and how much the delegates of a search may take
@@ -178,15 +178,15 @@ abbrev pub IsLastingFor : Rule → Lasting → Type 0
 IsLastingFor r = IsLasting (is_anchored (plan r.input) r.options) (plan r.input).analysis.tree
 
 -- how much the delegates of its searches may take
-abbrev pub limits_in : Regex → SearchLimits
+abbrev pub limits_in : Matcher → SearchLimits
 limits_in r = r.options.limits
 
 -- It was compiled from the tree of the rule, its searches of this text have these options and limits, and its answers last
 -- so.
 pub record IsTreeOf (r : Rule) (text : List ℕ) (x : ScanTree) : Type 0 where
-  pub regex : IsRegexOf r.input text r.options x.regex
+  pub matcher : IsRegexOf r.input text r.options x.matcher
   pub lasting : IsLastingFor r x.lasting
-  pub limits : limits_in x.regex ≡ r.limits
+  pub limits : limits_in x.matcher ≡ r.limits
 
 -- they are trees of these rules, one by one
 abbrev pub AreTreesOf : List Rule → List ℕ → List ScanTree → Type 0
@@ -195,10 +195,10 @@ AreTreesOf [] text (x ∷ xs) = ⊥
 AreTreesOf (r ∷ rules) text [] = ⊥
 AreTreesOf (r ∷ rules) text (x ∷ xs) = IsTreeOf r text x × AreTreesOf rules text xs
 
-abbrev pub trees_of : Scanner → List ScanTree
+abbrev pub trees_of : TreeScanner → List ScanTree
 trees_of s = s.trees.items
 
-abbrev pub IsScannerOf : List Rule → List ℕ → Scanner → Type 0
+abbrev pub IsScannerOf : List Rule → List ℕ → TreeScanner → Type 0
 IsScannerOf rules text s = AreTreesOf rules text (trees_of s)
 
 -- the rule with this number
@@ -206,11 +206,11 @@ abbrev pub IsRuleAt : List Rule → ℕ → Rule → Type 0
 IsRuleAt rules k r = drop k rules ≡ r ∷ drop (suc k) rules
 
 -- which answers of the tree with this number last
-abbrev pub lasting_at : Scanner → ℕ → Option Lasting
+abbrev pub lasting_at : TreeScanner → ℕ → Option Lasting
 lasting_at s k = option_map (λ x. x.lasting) (slice_get (trees_of s) k)
 
 -- it has the same trees after a call as before
-pub record KeepsTrees (s t : Scanner) : Type 0 where
+pub record KeepsTrees (s t : TreeScanner) : Type 0 where
   pub count : length (trees_of t) ≡ length (trees_of s)
   pub lasting : (k : ℕ) → lasting_at t k ≡ lasting_at s k
   pub same : (text : List ℕ) (rules : List Rule) → IsScannerOf rules text s → IsScannerOf rules text t

@@ -9,12 +9,12 @@ ghost use Rattle.fancy_scanner.specs.Scans as scans;
 ghost use Rattle.fancy_scanner.specs.Scans.{GoesOn, KeepsLoans, IsScanOf, KeepsHeld, text_of};
 
 use crate::scan_limit::limit_of;
-use crate::scan_text::{ScanStep, ScanText, TreeMatch, earlier};
+use crate::scan_text::{ScanStep, TreeMatch, TreeScan, earlier};
 use crate::scanner::{ScanTree, Stopped};
 use fancy_expr::error::Error;
 use std::alloc::AllocError;
 
-impl<'t> ScanText<'_, 't> {
+impl<'t> TreeScan<'_, 't> {
     /// Does what `find_from` does for some of the trees: `order` has their indices. If several matches start first, it
     /// is the match of the tree that is first in `order`. An index that no tree has is left out.
     ///

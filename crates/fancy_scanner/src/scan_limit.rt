@@ -1,7 +1,7 @@
 //! Which limit stopped the search for a tree.
 
 ghost use Rattle.std.specs.Prelude.{◌≡◌, MatchOption, None};
-ghost use Rattle.fancy_matches.specs.Regexes.{IsNoLimit};
+ghost use Rattle.fancy_matches.specs.Matchers.{IsNoLimit};
 ghost use Rattle.fancy_scanner.specs.Scanning.{error_of, search_limit};
 ghost use Rattle.fancy_steps.specs.SearchLimits.{EndsBy};
 

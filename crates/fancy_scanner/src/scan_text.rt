@@ -4,7 +4,7 @@ ghost use Rattle.std.specs.Prelude.{◌≡◌, ◌≢◌, ◌<◌, ◌^◌, ℕ,
 ghost use Rattle.std.specs.Option.{option_copied};
 ghost use Rattle.fancy_meaning.specs.Places as places;
 ghost use Rattle.fancy_matches.specs.Listing.{begun_at};
-ghost use Rattle.fancy_matches.specs.Regexes.{FindsCaptures, shown_match};
+ghost use Rattle.fancy_matches.specs.Matchers.{FindsCaptures, shown_match};
 ghost use Rattle.fancy_scanner.specs.Kept.{kept_captures, shown_whole};
 ghost use Rattle.fancy_scanner.specs.Limits.{TellsPassed, passed_at, passed_from};
 ghost use Rattle.fancy_scanner.specs.Scanning.{AreEasy, AreEasyRuns, IsRuleAt, IsStoppedByDelegates, Rule, Scans, trees_of};
@@ -15,7 +15,7 @@ ghost use Rattle.fancy_steps.specs.SearchLimits.{EndsBy};
 use crate::answers::Answer;
 use crate::scan_cache::ScanCache;
 use crate::scan_limit::limit_of;
-use crate::scanner::{Scanner, Stopped};
+use crate::scanner::{Stopped, TreeScanner};
 use fancy_expr::error::Error;
 use fancy_matches::found::{Captures, Match};
 use fancy_vm::vm::SearchLimit;
@@ -33,7 +33,7 @@ pub struct TreeMatch<'t> {
 #[derive(Clone, Copy)]
 pub struct ScanStep<'t> {
     /// Of the first match of each tree, the one that starts first. If several start there, it is the match of the tree
-    /// that was added first. Trees whose search exceeded a limit do not count. `ScanText::captures` has the groups.
+    /// that was added first. Trees whose search exceeded a limit do not count. `TreeScan::captures` has the groups.
     pub found: Option<TreeMatch<'t>>,
     /// The first tree whose search exceeded a limit, if there is one.
     pub stopped: Option<Stopped>,
@@ -41,19 +41,19 @@ pub struct ScanStep<'t> {
 
 /// A scan of one text for the trees of a scanner, from position to position, as a highlighter makes it.
 ///
-/// What is found of a tree is kept as long as it holds, if `Scanner::add_tree` or `push` added the tree. So a scan from
+/// What is found of a tree is kept as long as it holds, if `TreeScanner::add_tree` or `push` added the tree. So a scan from
 /// left to right reads the text once for each tree, and not once for each position. A tree with `\G` or of an anchored
 /// search is searched for at each position, and one with `\K` until it has no more match.
 #[derive(Drop)]
-pub struct ScanText<'r, 't> {
-    pub(crate) scanner: &'r mut Scanner,
+pub struct TreeScan<'r, 't> {
+    pub(crate) scanner: &'r mut TreeScanner,
     pub(crate) text: &'t str,
     pub(crate) cache: &'r mut ScanCache<'t>,
 }
 
-impl<'r, 't> ScanText<'r, 't> {
+impl<'r, 't> TreeScan<'r, 't> {
     /// Returns the match that starts first, of the first matches of all trees from `pos` on. If several start there, it
-    /// is the match of the tree that was added first. `Scanner::find_from` finds the same.
+    /// is the match of the tree that was added first. `TreeScanner::find_from` finds the same.
     ///
     /// `pos` is in bytes: the start of a character of the text, or the length of the text. The caller proves this. If
     /// the search for a tree exceeds a limit, the others are searched for all the same, and `stopped` has the first

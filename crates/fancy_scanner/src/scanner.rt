@@ -6,7 +6,7 @@ ghost use Rattle.fancy_meaning.specs.Places as places;
 ghost use Rattle.fancy_meaning.specs.Premises.{Input};
 ghost use Rattle.fancy_expr.specs.Sound.{IsWellFormedTree};
 ghost use Rattle.fancy_matches.specs.Listing.{begun_at};
-ghost use Rattle.fancy_matches.specs.Regexes.{FindsCaptures, IsRegexOf, captures_text};
+ghost use Rattle.fancy_matches.specs.Matchers.{FindsCaptures, IsRegexOf, captures_text};
 ghost use Rattle.fancy_search.specs.Searches.{IsRefusedAs, input_of, search_fits};
 ghost use Rattle.fancy_scanner.specs.Scanning as scanning;
 ghost use Rattle.fancy_scanner.specs.Scanning.{AreEasy, AreEasyRuns, IsRuleAt, IsStoppedByDelegates, IsScannerOf, IsTreeOf, KeepsTrees, RuleMatch, Rule, Scans, in_text, lasting_at, limits_in, match_view, rule_match, rule_of, start_of, trees_of};
@@ -17,11 +17,11 @@ ghost use Rattle.fancy_steps.specs.SearchLimits.{StaysWithin};
 use crate::lasting::Lasting;
 use crate::scan_cache::ScanCache;
 use crate::scan_limit::{ScanLimit, limit_of};
-use crate::scan_text::{ScanStep, ScanText};
+use crate::scan_text::{ScanStep, TreeScan};
 use fancy_expr::error::Error;
 use fancy_expr::expr::ExprTree;
 use fancy_matches::found::Captures;
-use fancy_matches::regexes::Regex;
+use fancy_matches::matcher::Matcher;
 use fancy_search::search::SearchOptions;
 use fancy_vm::vm::{SearchLimit, SearchLimits};
 use std::alloc::{AllocError, Global};
@@ -63,7 +63,7 @@ impl ScanMatch<'_> {
 
 /// A tree that is compiled for a scanner.
 pub struct ScanTree {
-    regex: Regex,
+    matcher: Matcher,
     lasting: Lasting,
 }
 
@@ -71,18 +71,18 @@ pub struct ScanTree {
 impl Drop for ScanTree {
     fn drop(self) {
         let ScanTree {
-            regex: _,
+            matcher: _,
             lasting: _,
         } = self;
     }
 }
 
 impl ScanTree {
-    /// Analyses and compiles the tree, as `Regex::new` of fancy_matches does. The parameters are the same.
+    /// Analyses and compiles the tree, as `Matcher::new` of fancy_matches does. The parameters are the same.
     ///
     /// # Errors
     ///
-    /// Those of `Regex::new`: `CompileError` or `NestLimitExceeded` if the tree is refused, `Memory` if an allocation
+    /// Those of `Matcher::new`: `CompileError` or `NestLimitExceeded` if the tree is refused, `Memory` if an allocation
     /// fails.
     pub fn new(
         alloc: Global,
@@ -99,9 +99,9 @@ impl ScanTree {
             (input_of tree.now options.now.analysis options.now.compilation)
             options.now.compilation.max_nesting) }
     {
-        let regex = Regex::new(alloc, tree, options, backtrack_limit)?;
+        let matcher = Matcher::new(alloc, tree, options, backtrack_limit)?;
         let lasting = Lasting::of(tree, options);
-        Ok(ScanTree { regex, lasting })
+        Ok(ScanTree { matcher, lasting })
     }
 
     /// Sets how many states the delegates of each later search may visit together, and how many bytes they may keep.
@@ -111,29 +111,29 @@ impl ScanTree {
             → IsTreeOf r text self.old
             → IsTreeOf (record r { limits = limits }) text self.new }
     {
-        self.regex.limit(limits);
+        self.matcher.limit(limits);
     }
 }
 
 /// Trees that are searched for together, as the rules of a highlighter are, each with the memory of its searches.
-pub struct Scanner {
+pub struct TreeScanner {
     alloc: Global,
     trees: Vec<ScanTree>,
 }
 
 // Not derived: whoever owns one calls this drop, and would prove a derived one again (docs/GATE.md).
-impl Drop for Scanner {
+impl Drop for TreeScanner {
     fn drop(self) {
-        let Scanner { alloc: _, trees: _ } = self;
+        let TreeScanner { alloc: _, trees: _ } = self;
     }
 }
 
-impl Scanner {
+impl TreeScanner {
     /// A scanner without trees. It allocates nothing.
-    pub fn new(alloc: Global) -> Scanner
+    pub fn new(alloc: Global) -> TreeScanner
         ensures { (text : List ℕ) → IsScannerOf [] text result }
     {
-        Scanner {
+        TreeScanner {
             alloc,
             trees: Vec::new(alloc),
         }
@@ -155,24 +155,24 @@ impl Scanner {
         Ok(())
     }
 
-    /// Adds a regex after the other trees, with its limits. A [`ScanText`] searches for it at each position again,
+    /// Adds a matcher after the other trees, with its limits. A [`TreeScan`] searches for it at each position again,
     /// since the tree is no longer there to show how long a result holds; `add_tree` is the faster way.
     ///
     /// # Errors
     ///
     /// `AllocError` if an allocation fails. The scanner then has the trees that it had.
-    pub fn add(&mut self, regex: Regex) -> Result<(), AllocError>
+    pub fn add(&mut self, matcher: Matcher) -> Result<(), AllocError>
         ensures ok { OnOk result ((text : List ℕ) (rules : List Rule) (i : Input)
             (o : plain.RunOptions)
-            → IsScannerOf rules text self.old → IsRegexOf i text o regex
+            → IsScannerOf rules text self.old → IsRegexOf i text o matcher
             → IsScannerOf
-            (rules ++ record { input = i; options = o; limits = limits_in regex } ∷ [])
+            (rules ++ record { input = i; options = o; limits = limits_in matcher } ∷ [])
             text self.new) }
         ensures err { IfErr result (λ _. (text : List ℕ) (rules : List Rule)
             → IsScannerOf rules text self.old → IsScannerOf rules text self.new) }
     {
         self.push(ScanTree {
-            regex,
+            matcher,
             lasting: Lasting::Nothing,
         })?;
         Ok(())
@@ -239,7 +239,7 @@ impl Scanner {
         ensures stays { StaysWithin result (passed_at self.new index) }
         ensures others { (k : ℕ) → k ≢ index → passed_at self.new k ≡ passed_at self.old k }
     {
-        self.trees[index].regex.captures_from(text, pos)
+        self.trees[index].matcher.captures_from(text, pos)
     }
 
     /// The limit of its delegates that the last search for the tree with this index exceeded.
@@ -247,7 +247,7 @@ impl Scanner {
         requires { index < length (trees_of self.now) }
         ensures { result ≡ passed_at self.now index }
     {
-        self.trees[index].regex.passed()
+        self.trees[index].matcher.passed()
     }
 
     /// Searches for each tree from `pos` on, and returns the match that starts first. If several start there, it is the
@@ -316,17 +316,17 @@ impl Scanner {
         &'r mut self,
         text: &'t str,
         cache: &'r mut ScanCache<'t>,
-    ) -> ScanText<'r, 't>
+    ) -> TreeScan<'r, 't>
         ensures { BeginsScan self.entry text.now cache.entry result }
     {
-        ScanText {
+        TreeScan {
             scanner: self,
             text,
             cache,
         }
     }
 
-    /// Does what `ScanText::find_from` does, with a cache that the caller keeps from one call to the next. The cache is
+    /// Does what `TreeScan::find_from` does, with a cache that the caller keeps from one call to the next. The cache is
     /// empty, or it was filled for the same text by this scanner.
     ///
     /// # Errors
@@ -360,7 +360,7 @@ impl Scanner {
             → IsScanBy rules text.now self.new (answers_in cache.new) }
         ensures count { length (answers_in cache.old) ≤ length (answers_in cache.new) }
     {
-        let mut scan = ScanText {
+        let mut scan = TreeScan {
             scanner: self,
             text,
             cache,

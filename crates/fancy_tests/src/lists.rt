@@ -5,7 +5,7 @@ use crate::line::Line;
 use crate::replacements::push_replacement;
 use crate::spans::{close, push_group, push_item, push_none};
 use fancy_matches::found::Captures;
-use fancy_matches::regexes::Regex;
+use fancy_matches::matcher::Matcher;
 use fancy_regex_engine::arguments::read_arguments;
 use fancy_regex_engine::error::Error;
 use fancy_regex_engine::expr::{ExprTree, is_well_formed, read_tree};
@@ -16,7 +16,7 @@ use std::alloc::Global;
 const MOST_GROUPS: usize = 10;
 
 /// The regex of a tree by these words.
-pub fn regex_of(alloc: Global, tree: &ExprTree, words: &str) -> Result<Regex, Error> {
+pub fn regex_of(alloc: Global, tree: &ExprTree, words: &str) -> Result<Matcher, Error> {
     let mut all = Vec::new(alloc);
     add_words(&mut all, alloc, words)?;
     let Some(arguments) = read_arguments(&all) else {
@@ -26,11 +26,11 @@ pub fn regex_of(alloc: Global, tree: &ExprTree, words: &str) -> Result<Regex, Er
     if !options.fits("") || !is_well_formed(tree) {
         return Err(Error::TreeFault { at: 0 });
     }
-    Regex::new(alloc, tree, &options, arguments.backtracks)
+    Matcher::new(alloc, tree, &options, arguments.backtracks)
 }
 
 /// The regex of a tree in the notation by these words.
-pub fn regex(alloc: Global, tree: &str, words: &str) -> Result<Regex, Error> {
+pub fn regex(alloc: Global, tree: &str, words: &str) -> Result<Matcher, Error> {
     let tree = read_tree(alloc, tree)?;
     regex_of(alloc, &tree, words)
 }
@@ -51,7 +51,7 @@ fn push_captures(line: &mut Line, spans: &mut Line, captures: &Captures<'_>) {
 fn push_all_captures(
     line: &mut Line,
     spans: &mut Line,
-    regex: &mut Regex,
+    regex: &mut Matcher,
     text: &str,
 ) -> Result<(), Error> {
     for captures in regex.captures_iter(text) {
@@ -61,7 +61,7 @@ fn push_all_captures(
 }
 
 /// All matches, by the one that gives none.
-fn push_all_matches(spans: &mut Line, regex: &mut Regex, text: &str) -> Result<(), Error> {
+fn push_all_matches(spans: &mut Line, regex: &mut Matcher, text: &str) -> Result<(), Error> {
     for found in regex.find_iter(text) {
         let found = found?;
         push_item(spans, found.start(), found.end());
@@ -73,7 +73,7 @@ fn push_all_matches(spans: &mut Line, regex: &mut Regex, text: &str) -> Result<(
 pub fn push_found(
     line: &mut Line,
     alloc: Global,
-    regex: &mut Regex,
+    regex: &mut Matcher,
     text: &str,
 ) -> Result<(), Error> {
     let (mut spans, mut others) = (Line::new(alloc), Line::new(alloc));
@@ -87,7 +87,7 @@ pub fn push_found(
 fn push_matches(
     line: &mut Line,
     alloc: Global,
-    regex: &mut Regex,
+    regex: &mut Matcher,
     text: &str,
 ) -> Result<(), Error> {
     let text = with_line_ends(alloc, written_out(alloc, text)?.as_str())?;
@@ -95,7 +95,7 @@ fn push_matches(
 }
 
 /// TEXT, how many at most: the pieces.
-fn push_pieces(line: &mut Line, regex: &mut Regex, text: &str, limit: &str) -> Result<(), Error> {
+fn push_pieces(line: &mut Line, regex: &mut Matcher, text: &str, limit: &str) -> Result<(), Error> {
     if limit == "all" {
         for piece in split(regex, text) {
             line.text("[").text(piece?).text("]");
@@ -114,7 +114,7 @@ fn push_told(
     line: &mut Line,
     alloc: Global,
     table: &str,
-    regex: &mut Regex,
+    regex: &mut Matcher,
     text: &str,
     rest: &str,
 ) -> Result<(), Error> {

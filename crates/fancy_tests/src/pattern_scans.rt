@@ -7,7 +7,7 @@ use crate::scans::{push_agreed, push_found, push_missing, push_stopped};
 use crate::spans::push_numbered;
 use fancy_characters::places::is_place;
 use fancy_regex::{Error, ScanText, Scanner};
-use fancy_scanner::scanner::Scanner as TreeScanner;
+use fancy_scanner::scanner::TreeScanner;
 use std::alloc::Global;
 
 /// What a scan says, what the engine says from each place alone, and what the groups `n` took.

@@ -2,7 +2,7 @@
 
 use crate::columns::{names_of, number, split as columns};
 use crate::line::Line;
-use fancy_matches::regexes::Regex;
+use fancy_matches::matcher::Matcher;
 use fancy_regex_engine::error::Error;
 use fancy_replace::replace::{replace, replace_all, replacen};
 use fancy_replace::template::Template;
@@ -18,7 +18,7 @@ pub fn template(alloc: Global, named: &str, text: &str) -> Result<Template, Allo
 fn push_replaced(
     line: &mut Line,
     alloc: Global,
-    regex: &mut Regex,
+    regex: &mut Matcher,
     text: &str,
     limit: &str,
     template: &Template,
@@ -36,7 +36,7 @@ fn push_replaced(
 pub fn push_replacement(
     line: &mut Line,
     alloc: Global,
-    regex: &mut Regex,
+    regex: &mut Matcher,
     text: &str,
     rest: &str,
 ) -> Result<(), Error> {

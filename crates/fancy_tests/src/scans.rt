@@ -9,12 +9,12 @@ use fancy_regex_engine::error::Error;
 use fancy_regex_engine::expr::{is_well_formed, read_tree};
 use fancy_regex_engine::search::SearchOptions;
 use fancy_scanner::scan_limit::ScanLimit;
-use fancy_scanner::scan_text::ScanText;
-use fancy_scanner::scanner::{ScanMatch, Scanner, Stopped};
+use fancy_scanner::scan_text::TreeScan;
+use fancy_scanner::scanner::{ScanMatch, Stopped, TreeScanner};
 use std::alloc::Global;
 
 /// Adds a tree in the notation, with the default options.
-fn add_tree(scanner: &mut Scanner, alloc: Global, tree: &str) -> Result<(), Error> {
+fn add_tree(scanner: &mut TreeScanner, alloc: Global, tree: &str) -> Result<(), Error> {
     let tree = read_tree(alloc, tree)?;
     let options = SearchOptions::default();
     if !options.fits("") || !is_well_formed(&tree) {
@@ -25,8 +25,8 @@ fn add_tree(scanner: &mut Scanner, alloc: Global, tree: &str) -> Result<(), Erro
 
 /// Adds the trees with ` ; ` between them: to one scanner by its tree, to the other compiled before.
 fn add_trees(
-    by_trees: &mut Scanner,
-    compiled: &mut Scanner,
+    by_trees: &mut TreeScanner,
+    compiled: &mut TreeScanner,
     alloc: Global,
     trees: &str,
 ) -> Result<(), Error> {
@@ -52,7 +52,7 @@ pub fn push_stopped(line: &mut Line, stopped: &Option<Stopped>) {
 
 /// The match from this place on, with the number of its tree, behind a limit that a tree passed, by a scan of the text;
 /// answers where the scan goes on, which is past every text where there is none.
-fn push_kept(line: &mut Line, scan: &mut ScanText<'_, '_>, pos: usize) -> Result<usize, Error> {
+fn push_kept(line: &mut Line, scan: &mut TreeScan<'_, '_>, pos: usize) -> Result<usize, Error> {
     if !is_place(scan.text().as_bytes(), pos) {
         return Ok(pos.saturating_add(1));
     }
@@ -79,7 +79,7 @@ fn push_match(line: &mut Line, first: &ScanMatch<'_>) -> usize {
 /// The same, searched for from this place alone.
 pub fn push_found(
     line: &mut Line,
-    scanner: &mut Scanner,
+    scanner: &mut TreeScanner,
     text: &str,
     pos: usize,
 ) -> Result<usize, Error> {
@@ -115,8 +115,8 @@ pub fn push_agreed(line: &mut Line, kept: &str, found: &str) {
 fn push_matches(
     kept: &mut Line,
     found: &mut Line,
-    scan: &mut ScanText<'_, '_>,
-    compiled: &mut Scanner,
+    scan: &mut TreeScan<'_, '_>,
+    compiled: &mut TreeScanner,
     text: &str,
 ) -> Result<(), Error> {
     let mut pos = 0;
@@ -131,8 +131,8 @@ fn push_matches(
 fn push_places(
     kept: &mut Line,
     found: &mut Line,
-    scan: &mut ScanText<'_, '_>,
-    compiled: &mut Scanner,
+    scan: &mut TreeScan<'_, '_>,
+    compiled: &mut TreeScanner,
     text: &str,
     places: &str,
 ) -> Result<(), Error> {
@@ -154,8 +154,8 @@ fn push_places(
 fn push_scan(
     kept: &mut Line,
     found: &mut Line,
-    scan: &mut ScanText<'_, '_>,
-    compiled: &mut Scanner,
+    scan: &mut TreeScan<'_, '_>,
+    compiled: &mut TreeScanner,
     text: &str,
     places: &str,
 ) -> Result<(), Error> {
@@ -175,7 +175,7 @@ fn push_by_both(
     text: &str,
     places: &str,
 ) -> Result<(), Error> {
-    let (mut by_trees, mut compiled) = (Scanner::new(alloc), Scanner::new(alloc));
+    let (mut by_trees, mut compiled) = (TreeScanner::new(alloc), TreeScanner::new(alloc));
     add_trees(&mut by_trees, &mut compiled, alloc, trees)?;
     let mut cache = by_trees.create_cache();
     let mut scan = by_trees.scan(text, &mut cache);

@@ -13,7 +13,7 @@ use fancy_characters::places::is_place;
 use fancy_expr::error::Error;
 use fancy_expr::expr::ExprTree;
 use fancy_matches::found::{Captures, Match};
-use fancy_matches::regexes::Regex;
+use fancy_matches::matcher::Matcher;
 use fancy_railroad::names::GroupNames;
 use std::alloc::{AllocError, Global};
 use std::collections::BTreeMap;
@@ -22,14 +22,14 @@ use std::collections::BTreeMap;
 const SHOWN: usize = 60;
 
 /// The tree, compiled for searches.
-fn regex(alloc: Global, request: &Request, tree: &ExprTree) -> Result<Regex, Trouble>
+fn regex(alloc: Global, request: &Request, tree: &ExprTree) -> Result<Matcher, Trouble>
     requires { IsWellFormedTree tree.now }
 {
     let options = request.options();
     if !options.fits("") {
         return Err(Trouble::Words(String::from_str(alloc, "these options do not fit together")?));
     }
-    match Regex::new(alloc, tree, &options, request.arguments.backtracks) {
+    match Matcher::new(alloc, tree, &options, request.arguments.backtracks) {
         Ok(regex) => {
             let mut regex = regex;
             regex.limit(request.limits);
@@ -58,7 +58,7 @@ impl Groups {
 /// A tree that is compiled for searches, and what of the tree their answers speak of.
 #[derive(Drop)]
 pub struct Searcher {
-    pub regex: Regex,
+    pub regex: Matcher,
     pub groups: Groups,
     /// The numbers of each name.
     pub numbers: BTreeMap<String, Vec<usize>>,

@@ -1,4 +1,4 @@
-use Rattle.fancy_matches.specs.Regexes.{captures_text, numbers_in}
+use Rattle.fancy_matches.specs.Matchers.{captures_text, numbers_in}
 use Rattle.fancy_replace.specs.Outputs.{Holds}
 use Rattle.fancy_replace.proofs.Growing.{grows_if_ok}
 use Rattle.fancy_host.proofs.rewriting.append.Goals as goal

@@ -6,7 +6,7 @@ use Rattle.fancy_meaning.specs.Places.{is_place}
 use Rattle.fancy_meaning.specs.Premises.{IsText}
 use Rattle.fancy_search.specs.Scratches.{passed_of}
 use Rattle.fancy_steps.specs.Tasks.{options_of as run_options_of}
-use Rattle.fancy_matches.specs.Regexes.{captures_text, numbers_in, standing_of}
+use Rattle.fancy_matches.specs.Matchers.{captures_text, numbers_in, standing_of}
 use Rattle.fancy_host.proofs.LimitsPassed.{stays_so}
 use Rattle.fancy_host.proofs.TextRewritten.{GoesOn, at_first, ends_by_limit, ends_by_none, fails_by, goes_further, next_begins, next_starts_at_place, rest_is}
 use Rattle.fancy_host.proofs.rewriting.rewrite.Goals as goal

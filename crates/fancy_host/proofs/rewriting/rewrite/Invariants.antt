@@ -1,7 +1,7 @@
 use Rattle.std.proofs.Common.{◌≡◌, ℕ, List, None}
 use Rattle.fancy_search.specs.Scratches.{Suits, limits_of, passed_of}
 use Rattle.fancy_steps.specs.Tasks.{options_of as run_options_of}
-use Rattle.fancy_matches.specs.Regexes.{standing_of}
+use Rattle.fancy_matches.specs.Matchers.{standing_of}
 use Rattle.fancy_replace.specs.Outputs.{Holds}
 use Rattle.fancy_host.proofs.TextRewritten.{GoesOn}
 use Rattle.fancy_host.proofs.rewriting.rewrite.Given as goal

@@ -1,5 +1,5 @@
 use Rattle.std.proofs.Common.{arith}
-use Rattle.fancy_matches.specs.Regexes.{numbers_in}
+use Rattle.fancy_matches.specs.Matchers.{numbers_in}
 use Rattle.fancy_host.proofs.RowsScanned.{group_more}
 use Rattle.fancy_host.proofs.scans.write_groups.Goals as goal
 

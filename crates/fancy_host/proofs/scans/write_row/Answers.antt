@@ -1,4 +1,4 @@
-use Rattle.fancy_matches.specs.Regexes.{numbers_in}
+use Rattle.fancy_matches.specs.Matchers.{numbers_in}
 use Rattle.fancy_host.proofs.RowsScanned.{row_written}
 use Rattle.fancy_host.proofs.scans.write_row.Goals as goal
 

@@ -8,7 +8,7 @@ use Rattle.fancy_steps.specs.Outcomes.{first_pair}
 use Rattle.fancy_steps.specs.Tasks.{options_of as run_options_of}
 use Rattle.fancy_search.specs.Searches.{IsCompiledFrom}
 use Rattle.fancy_matches.specs.Listing.{after, is_listed}
-use Rattle.fancy_matches.specs.Regexes.{EndsOn, Shows, StepsBy, standing_of}
+use Rattle.fancy_matches.specs.Matchers.{EndsOn, Shows, StepsBy, standing_of}
 use Rattle.fancy_matches.proofs.Stepping.{GoesOn, at_first, found_further, none_at_end, passed_on, search_error, search_fits, search_listed, search_none, search_past}
 use Rattle.fancy_matches.proofs.searches.next_found.Goals as goal
 

@@ -1,7 +1,7 @@
 use Rattle.std.proofs.Common.{◌≡◌, ◌-◌, None, suc, length}
 use Rattle.fancy_search.specs.Scratches.{Suits, limits_of, passed_of}
 use Rattle.fancy_steps.specs.Tasks.{options_of as run_options_of}
-use Rattle.fancy_matches.specs.Regexes.{standing_of}
+use Rattle.fancy_matches.specs.Matchers.{standing_of}
 use Rattle.fancy_matches.proofs.Stepping.{GoesOn}
 use Rattle.fancy_matches.proofs.searches.next_found.Given as goal
 

@@ -9,7 +9,7 @@ abbrev pub invariant-matches : goal.invariant-matches
 invariant-matches g l =
     (more : List ℕ) × (Grows g.O.Output.holds l.fn.out more l.out
     × ((l.is_replaced ≡ false → more ≡ [])
-    × GoesOn l.fn.regex l.regex l.text (as_limit l.limit) (g.R.Replacer.replacement_text l.replacement l.text) l.cuts more (not l.is_replaced)))
+    × GoesOn l.fn.matcher l.matcher l.text (as_limit l.limit) (g.R.Replacer.replacement_text l.replacement l.text) l.cuts more (not l.is_replaced)))
 
 abbrev pub decreases-matches : goal.decreases-matches
 decreases-matches g l = places_left l.cuts

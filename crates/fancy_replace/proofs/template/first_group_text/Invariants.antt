@@ -1,5 +1,5 @@
 use Rattle.std.proofs.Common.{◌≡◌, drop}
-use Rattle.fancy_matches.specs.Regexes.{captures_text, numbers_in}
+use Rattle.fancy_matches.specs.Matchers.{captures_text, numbers_in}
 use Rattle.fancy_replace.specs.Templates.{first_group_text}
 use Rattle.fancy_replace.proofs.template.first_group_text.Given as goal
 

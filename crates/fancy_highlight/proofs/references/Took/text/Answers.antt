@@ -1,6 +1,6 @@
 use Rattle.std.proofs.Common.{sym, ap, ◌∙◌}
 use Rattle.std.specs.Str.{chars}
-use Rattle.fancy_matches.specs.Regexes.{captures_text}
+use Rattle.fancy_matches.specs.Matchers.{captures_text}
 use Rattle.fancy_highlight.specs.Ends.{taken, text_in}
 use Rattle.fancy_highlight.proofs.references.Took.text.Goals as goal
 

@@ -3,7 +3,7 @@ use Rattle.fancy_meaning.specs.Fits.{run_fits}
 use Rattle.fancy_program.specs.Programs.{prog_of}
 use Rattle.fancy_search.specs.Searches.{program}
 use Rattle.fancy_search.specs.Scratches.{passed_of}
-use Rattle.fancy_matches.specs.Regexes as matches
+use Rattle.fancy_matches.specs.Matchers as matches
 use Rattle.fancy_host.specs.Hosted.{compiled_of, passed_in}
 use Rattle.fancy_host.specs.Lists.{Lists, Writes, does_not_fit, listed, listing, standing_of, width_of}
 use Rattle.fancy_host.proofs.LimitsPassed.{passed_so}

@@ -3,7 +3,7 @@ use Rattle.fancy_meaning.specs.Numbers.{usize_max}
 use Rattle.fancy_meaning.specs.Premises.{IsText}
 use Rattle.fancy_search.specs.Scratches.{passed_of}
 use Rattle.fancy_steps.specs.Tasks.{options_of as run_options_of}
-use Rattle.fancy_matches.specs.Regexes.{standing_of}
+use Rattle.fancy_matches.specs.Matchers.{standing_of}
 use Rattle.fancy_host.specs.Codes.{no_match, ok}
 use Rattle.fancy_host.specs.Hosted.{coded, compiled_of, failure_by, with_count}
 use Rattle.fancy_host.proofs.LimitsPassed.{stays_so}

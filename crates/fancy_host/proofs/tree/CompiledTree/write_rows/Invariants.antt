@@ -1,7 +1,7 @@
 use Rattle.std.proofs.Common.{◌≡◌, ◌-◌, None, length}
 use Rattle.fancy_search.specs.Scratches.{Suits, limits_of, passed_of}
 use Rattle.fancy_steps.specs.Tasks.{options_of as run_options_of}
-use Rattle.fancy_matches.specs.Regexes.{standing_of}
+use Rattle.fancy_matches.specs.Matchers.{standing_of}
 use Rattle.fancy_host.specs.Hosted.{compiled_of}
 use Rattle.fancy_host.proofs.RowsWritten.{Written}
 use Rattle.fancy_host.proofs.tree.CompiledTree.write_rows.Given as goal

@@ -1,6 +1,6 @@
 use Rattle.std.proofs.Common.{◌≡◌, ◌+◌, ◌*◌, slice_index_or, sym, ap, ◌∙◌, arith}
 use Rattle.fancy_meaning.specs.Numbers.{usize_max}
-use Rattle.fancy_matches.specs.Regexes.{numbers_in}
+use Rattle.fancy_matches.specs.Matchers.{numbers_in}
 use Rattle.fancy_matches.proofs.Lists.{group_is}
 use Rattle.fancy_matches.proofs.found.Captures.get.Goals as goal
 

@@ -5,7 +5,7 @@ use Rattle.fancy_steps.specs.Tasks.{options_of as run_options_of}
 use Rattle.fancy_info.specs.Infos.{analysis_options_of}
 use Rattle.fancy_compile.specs.Compiled.{compile_options_of}
 use Rattle.fancy_regex.specs.Builders.{options}
-use Rattle.fancy_matches.specs.declared.options.RegexOptions as engine_options
+use Rattle.fancy_matches.specs.declared.options.MatcherOptions as engine_options
 use Rattle.fancy_regex.specs.Options.{input}
 use Rattle.fancy_regex.proofs.Built.{built, compiled_so, limited_so, refused, refused_so, unlimited_so, within_so}
 use Rattle.fancy_regex.proofs.builder.RegexBuilder.build.Goals as goal
@@ -28,7 +28,7 @@ returns-in-Ok c =
     (compiled_so (options b) tree a k says.analysis says.compilation (run_options_of o.run) engine says.run made)
     (unlimited_so (options b) tree a k says.analysis says.compilation (run_options_of o.run) engine says.run made says.steps)
     (within_so (options b) tree a k says.analysis says.compilation (o.compilation).max_nesting says.nesting c.in-Ok.ensures.within)
-    (ap (λ (a : engine_options.RegexOptions). a.limits) c.limit.ensures.options ∙ c.search_limits.ensures)
+    (ap (λ (a : engine_options.MatcherOptions). a.limits) c.limit.ensures.options ∙ c.search_limits.ensures)
     c.regex_of.result c.regex_of.ensures
 
 pub returns-in-Err : goal.returns-in-Err

@@ -1,6 +1,6 @@
 use Rattle.std.proofs.Common.{subst}
-use Rattle.fancy_matches.specs.Regexes as engine
-use Rattle.fancy_matches.specs.Regexes.{with_numbers}
+use Rattle.fancy_matches.specs.Matchers as engine
+use Rattle.fancy_matches.specs.Matchers.{with_numbers}
 use Rattle.fancy_regex.specs.Found.{shown_captures}
 use Rattle.fancy_regex.proofs.Replies.{captures_found, easy_error, easy_names, names_told, search_fails}
 use Rattle.fancy_regex.proofs.regexes.Regex.captured.Goals as goal

@@ -1,6 +1,6 @@
 use Rattle.std.proofs.Common.{Err, sym, subst}
 use Rattle.fancy_matches.specs.Listing.{begun_at}
-use Rattle.fancy_matches.specs.Regexes as engine
+use Rattle.fancy_matches.specs.Matchers as engine
 use Rattle.fancy_regex.proofs.Replies.{easy_error}
 use Rattle.fancy_regex.proofs.regexes.Regex.is_match.Goals as goal
 

@@ -1,16 +1,15 @@
 use Rattle.std.proofs.Common.{◌∙◌, sym, subst}
-use Rattle.fancy_matches.specs.Regexes as engine
-use Rattle.fancy_matches.specs.Regexes.{with_span}
-use Rattle.fancy_regex.specs.Found.{shown_match}
+use Rattle.fancy_matches.specs.Matchers as engine
+use Rattle.fancy_matches.specs.Matchers.{shown_match, with_span}
 use Rattle.fancy_regex.proofs.Replies.{easy_error, search_fails}
 use Rattle.fancy_regex.proofs.regexes.Regex.matched.Goals as goal
 
 pub returns-in-Ok-clause-promise : goal.returns-in-Ok-clause-promise
-returns-in-Ok-clause-promise c i text o h = let found = subst (engine.FindsMatch i text o) c.in-Ok.is h in (found.0, c.some_match.ensures ∙ found.1)
+returns-in-Ok-clause-promise c i text o h = subst (engine.FindsMatch i text o) c.in-Ok.is h
 
 pub returns-in-Err-clause-promise : goal.returns-in-Err-clause-promise
 returns-in-Err-clause-promise c i text o h =
-    search_fails engine.shown_match (with_span text) shown_match (with_span text) i text o c.in-Err.error c.told.result c.told.ensures.engine
+    search_fails shown_match (with_span text) shown_match (with_span text) i text o c.in-Err.error c.told.result c.told.ensures.engine
     (subst (engine.FindsMatch i text o) c.in-Err.is h)
 
 pub returns-in-Err-clause-easy : goal.returns-in-Err-clause-easy

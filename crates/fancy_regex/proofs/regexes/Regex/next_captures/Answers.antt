@@ -1,7 +1,7 @@
 use Rattle.std.proofs.Common.{◌<◌, ◌-◌, suc, length, Some, Ok, Err, IfErr, IfSome, ap, ◌∙◌, sym, subst, arith}
 use Rattle.fancy_meaning.specs.Numbers.{usize_max}
 use Rattle.fancy_matches.specs.Listing.{ended}
-use Rattle.fancy_matches.specs.Regexes.{GivesBy, IsNoLimitWhereEasy, StaysInStep, shown_captures as engine_shown, standing_of, with_numbers}
+use Rattle.fancy_matches.specs.Matchers.{GivesBy, IsNoLimitWhereEasy, StaysInStep, shown_captures as engine_shown, standing_of, with_numbers}
 use Rattle.fancy_regex.specs.Errors.{engine_error, limit_told}
 use Rattle.fancy_regex.specs.Found.{shown_captures}
 use Rattle.fancy_regex.proofs.Replies.{easy_error, easy_memory, list_fails, list_wants_memory}

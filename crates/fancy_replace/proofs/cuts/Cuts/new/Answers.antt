@@ -3,7 +3,7 @@ use Rattle.std.proofs.lemmas.Str.{IsCharBoundary-start}
 use Rattle.fancy_laws.proofs.Characters.{place_of_cut}
 use Rattle.fancy_meaning.specs.Numbers.{usize_max}
 use Rattle.fancy_steps.specs.Outcomes.{first_pair}
-use Rattle.fancy_matches.specs.Regexes.{left_of}
+use Rattle.fancy_matches.specs.Matchers.{left_of}
 use Rattle.fancy_replace.specs.Steps.{AreAhead}
 use Rattle.fancy_replace.proofs.Cutting.{all_ahead}
 use Rattle.fancy_replace.proofs.cuts.Cuts.new.Goals as goal

@@ -2,7 +2,7 @@ use Rattle.std.proofs.Common.{◌≡◌, ◌≤◌, IfErr, IfSome, true, true≢
 use Rattle.fancy_laws.proofs.Characters.{cut_of_place}
 use Rattle.fancy_meaning.specs.Places.{is_place}
 use Rattle.fancy_steps.specs.Outcomes.{first_pair}
-use Rattle.fancy_matches.specs.Regexes.{GivesCaptures, IsNoLimitWhereEasy, StaysInStep, left_of, standing_of}
+use Rattle.fancy_matches.specs.Matchers.{GivesCaptures, IsNoLimitWhereEasy, StaysInStep, left_of, standing_of}
 use Rattle.fancy_matches.proofs.Stepping.{of_same}
 use Rattle.fancy_replace.specs.Pieces.{take_limit}
 use Rattle.fancy_replace.specs.Steps.{AreAhead, all_left}
@@ -14,7 +14,7 @@ range-piece-requires-clause-start_le_end c =
     let s = c.args.self.now in
     let was = c.in-Some-Ok.is ∙ ap Some c.in-Some-Ok.field-0-is in
     subst (λ n. s.from ≤ n) (sym (c.start.ensures ∙ ap (λ p. p.0) c.whole-whole.ensures.span))
-    (next_begins c.args.regex.now s c.requires c.next_captures.result (standing_of c.next_captures.new.standing) c.next_captures.ensures.list
+    (next_begins c.args.matcher.now s c.requires c.next_captures.result (standing_of c.next_captures.new.standing) c.next_captures.ensures.list
     c.in-Some-Ok.captures was)
 
 pub range-piece-requires-clause-start_boundary : goal.range-piece-requires-clause-start_boundary
@@ -27,7 +27,7 @@ range-piece-requires-clause-end_boundary c =
     let was = c.in-Some-Ok.is ∙ ap Some c.in-Some-Ok.field-0-is in
     cut_of_place s.text.now c.start.result
     (subst (λ n. is_place s.text.now n ≡ true) (sym (c.start.ensures ∙ ap (λ p. p.0) c.whole-whole.ensures.span))
-    (next_starts_at_place c.args.regex.now s c.requires c.next_captures.result (standing_of c.next_captures.new.standing) c.next_captures.ensures.list
+    (next_starts_at_place c.args.matcher.now s c.requires c.next_captures.result (standing_of c.next_captures.new.standing) c.next_captures.ensures.list
     c.in-Some-Ok.captures was))
 
 pub returns-in-Some-Err-clause-next : goal.returns-in-Some-Err-clause-next
@@ -36,11 +36,11 @@ returns-in-Some-Err-clause-next c =
     record {
       steps = λ i o h. (
         λ e. true≢false (sym (c.is_spent.ensures.1 e) ∙ c.if-is_spent.false),
-        fails c.args.regex.now c.args.self.now c.requires c.next_captures.result (standing_of c.next_captures.new.standing)
+        fails c.args.matcher.now c.args.self.now c.requires c.next_captures.result (standing_of c.next_captures.new.standing)
             c.next_captures.ensures.list c.in-Some-Err.error was i o h,
       );
       easy =
-          subst (λ item. IfSome item (λ found. IfErr found (IsNoLimitWhereEasy c.args.regex.now c.args.self.now.text.now))) was
+          subst (λ item. IfSome item (λ found. IfErr found (IsNoLimitWhereEasy c.args.matcher.now c.args.self.now.text.now))) was
           c.next_captures.ensures.easy;
       within = refl;
       same = c.next_captures.ensures.same;
@@ -51,7 +51,7 @@ returns-in-Some-Err-clause-next c =
 
 pub returns-in-Some-Err-clause-ahead : goal.returns-in-Some-Err-clause-ahead
 returns-in-Some-Err-clause-ahead c =
-    let r = c.args.regex.now in
+    let r = c.args.matcher.now in
     let was = c.in-Some-Err.is ∙ ap Some c.in-Some-Err.field-0-is in
     record {
       place = c.requires.place;
@@ -63,7 +63,7 @@ returns-in-Some-Err-clause-ahead c =
 
 pub returns-in-Some-Ok-clause-next : goal.returns-in-Some-Ok-clause-next
 returns-in-Some-Ok-clause-next c =
-    let r = c.args.regex.now in
+    let r = c.args.matcher.now in
     let s = c.args.self.now in
     let to = standing_of c.next_captures.new.standing in
     let was = c.in-Some-Ok.is ∙ ap Some c.in-Some-Ok.field-0-is in
@@ -88,7 +88,7 @@ returns-in-Some-Ok-clause-next c =
 
 pub returns-in-Some-Ok-clause-ahead : goal.returns-in-Some-Ok-clause-ahead
 returns-in-Some-Ok-clause-ahead c =
-    let r = c.args.regex.now in
+    let r = c.args.matcher.now in
     let s = c.args.self.now in
     let to = standing_of c.next_captures.new.standing in
     let was = c.in-Some-Ok.is ∙ ap Some c.in-Some-Ok.field-0-is in

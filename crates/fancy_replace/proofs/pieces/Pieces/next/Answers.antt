@@ -1,5 +1,5 @@
 use Rattle.std.proofs.Common.{[], ◌∷◌, Ok, inl, refl, sym, ap, ◌∙◌, subst, true≢false, if◌then◌else◌}
-use Rattle.fancy_matches.specs.Regexes.{numbers_in}
+use Rattle.fancy_matches.specs.Matchers.{numbers_in}
 use Rattle.fancy_replace.specs.Pieces.{pieces_between}
 use Rattle.fancy_replace.specs.Steps.{StaysInCut, StepsToCut, cuts_left}
 use Rattle.fancy_replace.proofs.Cutting.{piece_last, piece_next, stays_last}
@@ -22,7 +22,7 @@ returns-in-Ok-Some-clause-gives c =
       easy = tt;
       within = c.next.ensures.next.within;
       same = c.next.ensures.next.same;
-      stays = inl (subst (λ x. StaysInCut s x c.next.new.regex) was c.next.ensures.next.stays);
+      stays = inl (subst (λ x. StaysInCut s x c.next.new.matcher) was c.next.ensures.next.stays);
     }
 
 pub returns-in-Ok-None-clause-gives : goal.returns-in-Ok-None-clause-gives
@@ -41,7 +41,7 @@ returns-in-Ok-None-clause-gives c =
       within = c.next.ensures.next.within;
       same = c.next.ensures.next.same;
       stays =
-          stays_last s c.args.regex.now c.next.new.regex (subst (λ x. StaysInCut s x c.next.new.regex) was c.next.ensures.next.stays)
+          stays_last s c.args.matcher.now c.next.new.matcher (subst (λ x. StaysInCut s x c.next.new.matcher) was c.next.ensures.next.stays)
           c.next.ensures.next.spent;
     }
 

@@ -1,6 +1,6 @@
 use Rattle.std.proofs.Common.{take, subst, arith, map}
 use Rattle.std.proofs.lemmas.Grind.{common_steps}
-use Rattle.fancy_matches.specs.Regexes.{captures_text, numbers_in}
+use Rattle.fancy_matches.specs.Matchers.{captures_text, numbers_in}
 use Rattle.fancy_replace.specs.Outputs.{Grows}
 use Rattle.fancy_replace.specs.Templates.{segment_of, segments_text}
 use Rattle.fancy_replace.proofs.Growing.{grows_none, grows_on}

@@ -1,5 +1,5 @@
 use Rattle.std.proofs.Common.{map, take}
-use Rattle.fancy_matches.specs.Regexes.{captures_text, numbers_in}
+use Rattle.fancy_matches.specs.Matchers.{captures_text, numbers_in}
 use Rattle.fancy_replace.specs.Outputs.{Grows}
 use Rattle.fancy_replace.specs.Templates.{segment_of, segments_text}
 use Rattle.fancy_replace.proofs.template.TemplateReplacer.replace_append.Given as goal

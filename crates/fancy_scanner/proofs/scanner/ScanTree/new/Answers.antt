@@ -4,9 +4,9 @@ use Rattle.fancy_scanner.proofs.scanner.ScanTree.new.Goals as goal
 
 pub returns : goal.returns
 returns c = λ text.
-    let made = c.in_ok-regex.ensures.made in
+    let made = c.in_ok-matcher.ensures.made in
     record {
-      regex = record { compiled = made.compiled; options = ap₂ (λ o asked. options_for o asked text) made.options made.backtracks };
+      matcher = record { compiled = made.compiled; options = ap₂ (λ o asked. options_for o asked text) made.options made.backtracks };
       lasting = c.of-lasting.ensures;
-      limits = c.in_ok-regex.ensures.limits;
+      limits = c.in_ok-matcher.ensures.limits;
     }

@@ -1,6 +1,0 @@
-use Rattle.std.proofs.lemmas.Str.{IsCharBoundary-start}
-use Rattle.fancy_laws.proofs.Characters.{place_of_cut}
-use Rattle.fancy_matches.proofs.regexes.Regex.captures.Goals as goal
-
-pub captures_from-requires : goal.captures_from-requires
-captures_from-requires c = place_of_cut c.args.text.now 0 (IsCharBoundary-start c.args.text.now c.utf8.text)
