@@ -1,2 +1,5 @@
+pub mod Blame
 pub mod Faults
+pub mod Known
+pub mod Leaves
 pub mod Words

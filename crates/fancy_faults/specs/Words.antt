@@ -58,7 +58,3 @@ Says (refusal.LeftRecursiveSubroutineCall group) e text = text ≡ string_bytes 
 Says (refusal.ClassTooBig class) e text = text ≡ codes "the class " ++ (string_bytes class ++ codes " is too big")
 Says refused (Some e) text = text ≡ of_node refused e
 Says refused None text = text ≡ fixed refused
-
--- what is said of a refusal, for whichever node
-abbrev pub IsSaidOf : CompileError → List ℕ → Type 0
-IsSaidOf refused text = (e : Option Expr) × Says refused e text

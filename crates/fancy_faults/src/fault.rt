@@ -1,16 +1,25 @@
 //! The fault of a pattern that can be read and is refused: where it is, and a sentence for a reader.
 
-ghost use Rattle.std.specs.Prelude.{IfOk, string_bytes};
+ghost use Rattle.std.specs.Prelude.{◌≡◌, IfOk, MatchOption};
+ghost use Rattle.fancy_analysis.specs.Analyses.{IsAnalysisOf};
+ghost use Rattle.fancy_analysis.specs.Refusals.{IsAnalysable};
+ghost use Rattle.fancy_expr.specs.Exprs.{exprs};
 ghost use Rattle.fancy_expr.specs.Sound.{IsWellFormedTree};
-ghost use Rattle.fancy_faults.specs.Faults.{IsFaultOf, IsPlaceIn};
-ghost use Rattle.fancy_faults.specs.Words.{IsSaidOf};
+ghost use Rattle.fancy_expr.specs.Views.{parsed_of};
+ghost use Rattle.fancy_info.specs.Infos.{analysis_options_of};
+ghost use Rattle.fancy_faults.specs.Blame.{IsBlamed};
+ghost use Rattle.fancy_faults.specs.Faults.{IsFaultOf, IsPlace, IsTreeFault};
+ghost use Rattle.fancy_faults.specs.Known.{exprs_of};
 
-use crate::finder::first_blamed;
+use crate::blame::Whole;
+use crate::finder::{
+    described_at, first_at_fault, leaf_of, look_behind_at, node_at, only_call, push_nodes,
+};
 use crate::leaves::{Span, first_by_number, leaf_spans, start_of};
 use crate::words::words;
 use fancy_analysis::analyze::{AnalyzeContext, analyze};
 use fancy_expr::error::{CompileError, Error};
-use fancy_expr::expr::ExprTree;
+use fancy_expr::expr::{Expr, ExprTree};
 use fancy_info::info::Info;
 use fancy_pattern::error::PatternError;
 use fancy_pattern::options::ParseOptions;
@@ -35,27 +44,58 @@ pub struct TreeFault {
     pub message: String,
 }
 
+/// The node that the refusal is for, by its index. `nodes` are those of the tree, and `info` is what the analysis says of
+/// it, if it says anything.
+fn blamed(
+    alloc: Global,
+    tree: &ExprTree,
+    nodes: &[&Expr],
+    info: Option<&Info<'_>>,
+    context: AnalyzeContext,
+    refused: &CompileError,
+) -> Result<Option<usize>, AllocError>
+    requires nodes { exprs_of nodes.now ≡ exprs tree.now.expr }
+    requires info { MatchOption info
+        (¬ IsAnalysable (parsed_of tree.now) (analysis_options_of context))
+        (λ info. IsAnalysisOf tree.now (analysis_options_of context) info.now) }
+    ensures { IfOk result (IsBlamed tree.now context refused.now) }
+{
+    let whole = Whole::of(tree, context);
+    match refused {
+        CompileError::LeftRecursiveSubroutineCall(text) => {
+            described_at(alloc, nodes, text.as_str(), whole.first)
+        }
+        CompileError::NeverEndingRecursion => Ok(only_call(nodes)),
+        CompileError::VariableLookBehindRequiresFeature => match info {
+            Some(info) => look_behind_at(alloc, info),
+            None => Ok(None),
+        },
+        _ => Ok(first_at_fault(nodes, refused, whole)),
+    }
+}
+
 /// The fault of a tree that the analysis or the compiler refuses with this error. `info` is what the analysis says of it,
 /// if it says anything.
-fn fault_by<'a>(
+fn fault_by(
     alloc: Global,
-    tree: &'a ExprTree,
-    info: Option<&Info<'a>>,
+    tree: &ExprTree,
+    info: Option<&Info<'_>>,
     context: AnalyzeContext,
     refused: &CompileError,
 ) -> Result<TreeFault, AllocError>
-    ensures { IfOk result (λ fault. IsSaidOf refused.now (string_bytes fault.message)) }
+    requires { MatchOption info
+        (¬ IsAnalysable (parsed_of tree.now) (analysis_options_of context))
+        (λ info. IsAnalysisOf tree.now (analysis_options_of context) info.now) }
+    ensures { IfOk result (IsTreeFault tree.now context refused.now) }
 {
-    match first_blamed(tree, info, context, refused) {
-        Some(found) => Ok(TreeFault {
-            leaf: Some(found.leaves_before),
-            message: words(alloc, refused, Some(found.expr))?,
-        }),
-        None => Ok(TreeFault {
-            leaf: None,
-            message: words(alloc, refused, None)?,
-        }),
-    }
+    let mut nodes = Vec::new(alloc);
+    push_nodes(&tree.expr, &mut nodes)?;
+    let at = blamed(alloc, tree, &nodes, info, context, refused)?;
+    let message = words(alloc, refused, node_at(&nodes, at))?;
+    Ok(TreeFault {
+        leaf: leaf_of(&nodes, at),
+        message,
+    })
 }
 
 /// The fault of a tree that the analysis or the compiler refuses with this error, under these options of the analysis.
@@ -70,7 +110,7 @@ pub fn fault_in_tree(
     refused: &CompileError,
 ) -> Result<TreeFault, AllocError>
     requires { IsWellFormedTree tree.now }
-    ensures { IfOk result (λ fault. IsSaidOf refused.now (string_bytes fault.message)) }
+    ensures { IfOk result (IsTreeFault tree.now context refused.now) }
 {
     match analyze(alloc, tree, context) {
         Ok(info) => fault_by(alloc, tree, Some(&info), context, refused),
@@ -87,15 +127,11 @@ fn place_of(
     leaf: Option<usize>,
     refused: &CompileError,
 ) -> Option<usize>
-    ensures { IsPlaceIn pattern.now result }
+    ensures { IsPlace refused.now spans.now leaf result }
 {
-    let refused_leaf = match refused {
-        CompileError::NamedBackrefOnly => first_by_number(pattern, spans),
-        _ => leaf,
-    };
-    match refused_leaf {
-        Some(leaf) => start_of(pattern, spans, leaf),
-        None => None,
+    match refused {
+        CompileError::NamedBackrefOnly => start_of(spans, first_by_number(pattern, spans)),
+        _ => start_of(spans, leaf),
     }
 }
 
@@ -119,7 +155,7 @@ pub fn fault_of(
     context: AnalyzeContext,
     refused: &CompileError,
 ) -> Result<Fault, AllocError>
-    ensures { IfOk result (IsFaultOf pattern.now refused.now) }
+    ensures { IfOk result (IsFaultOf parsing context pattern.now refused.now) }
 {
     let tree = match parse_tree(alloc, pattern, parsing) {
         Ok(tree) => tree,

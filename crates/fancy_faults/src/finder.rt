@@ -1,97 +1,138 @@
-//! The first node of a tree for which it is refused.
+//! The node of a tree for which it is refused.
 
-use crate::blame::{Node, Whole, is_blamed};
+ghost use Rattle.std.specs.Prelude.{◌≡◌, ◌++◌, ◌≤◌, ◌<◌, ◌^◌, IfOk, map, option_and_then, option_map, slice_get};
+ghost use Rattle.std.specs.List.{position};
+ghost use Rattle.fancy_expr.specs.Exprs.{exprs};
+ghost use Rattle.fancy_expr.specs.Walk.{start_inside};
+ghost use Rattle.fancy_info.specs.Infos.{info_tree};
+ghost use Rattle.fancy_meaning.specs.Nodes.{nodes};
+ghost use Rattle.fancy_meaning.specs.Options.{Analysis};
+ghost use Rattle.fancy_faults.specs.Blame as blame;
+ghost use Rattle.fancy_faults.specs.Known.{IsKnown, exprs_of};
+ghost use Rattle.fancy_faults.specs.Leaves as leaves;
+
+use crate::blame::{Whole, is_at_fault, is_call, is_described, is_variable_look_behind};
 use crate::leaves::is_plain;
 use fancy_expr::error::CompileError;
-use fancy_expr::expr::{Expr, ExprTree};
-use fancy_expr::parts::part_count;
-use fancy_info::context::AnalyzeContext;
+use fancy_expr::expr::Expr;
+use fancy_expr::parts::{part, part_count};
 use fancy_info::info::Info;
+use std::alloc::{AllocError, Global};
 
-/// How many levels of a tree are looked at.
-const MOST_LEVELS: usize = 1_010;
-
-/// A node of a tree, and how many leaves are before it, without those that are empty.
-#[derive(Clone, Copy)]
-pub struct Found<'a> {
-    pub expr: &'a Expr,
-    pub leaves_before: usize,
+/// Adds the node and those below it, each before those below it.
+pub fn push_nodes<'a>(expr: &'a Expr, nodes: &mut Vec<&'a Expr>) -> Result<(), AllocError>
+    ensures { IfOk result (λ u. exprs_of nodes.new.items
+        ≡ exprs_of nodes.old.items ++ exprs expr.now) }
+{
+    nodes.push(expr)?;
+    for i in 0..part_count(expr) {
+        push_nodes(part(expr, i), nodes)?;
+    }
+    Ok(())
 }
 
-/// Looks for the nodes for which a tree is refused.
-#[derive(Clone, Copy)]
-struct Finder<'r, 'a> {
-    refused: &'r CompileError,
-    tree: Whole,
-    /// How many leaves are passed that are not empty.
-    passed: usize,
-    first: Option<Found<'a>>,
-    /// How many nodes there are.
-    count: usize,
+/// Adds of the node, and of those below it, whether it is a look-behind with no fixed length.
+fn push_look_behinds(info: &Info<'_>, marks: &mut Vec<bool>) -> Result<(), AllocError>
+    ensures { IfOk result (λ u. (a : Analysis)
+        → IsKnown a info.now
+        → marks.new.items ≡ marks.old.items
+        ++ map (blame.is_variable_look_behind a.tree) (nodes (info_tree info.now))) }
+{
+    marks.push(is_variable_look_behind(info))?;
+    let children = info.children();
+    for part in children {
+        push_look_behinds(part, marks)?;
+    }
+    Ok(())
 }
 
-impl<'a> Finder<'_, 'a> {
-    fn note(&mut self, node: Node<'_, 'a>) {
-        if is_blamed(self.refused, node, self.tree) {
-            self.first = self.first.or(Some(Found {
-                expr: node.expr,
-                leaves_before: self.passed,
-            }));
-            self.count = self.count.saturating_add(1);
-        }
-        if is_plain(node.expr) {
-            self.passed = self.passed.saturating_add(1);
-        }
-    }
+/// The first look-behind with no fixed length, by its index among the nodes.
+pub fn look_behind_at(alloc: Global, info: &Info<'_>) -> Result<Option<usize>, AllocError>
+    ensures { IfOk result (λ at. (a : Analysis)
+        → IsKnown a info.now
+        → at ≡ position (blame.is_variable_look_behind a.tree) (nodes (info_tree info.now))) }
+{
+    let mut marks = Vec::new(alloc);
+    push_look_behinds(info, &mut marks)?;
+    Ok(marks.iter().position(|mark| *mark))
+}
 
-    /// Notes the node and those below it, this many levels deep, and returns the number of the next group.
-    fn note_all(&mut self, node: Node<'_, 'a>, levels: usize) -> usize {
-        if levels == 0 {
-            return node.group;
-        }
-        self.note(node);
-        let mut group = match node.expr {
-            Expr::Group(_) => node.group.saturating_add(1),
-            _ => node.group,
-        };
-        for i in 0..part_count(node.expr) {
-            group = self.note_all(node.child(i, group), levels - 1);
-        }
-        group
-    }
+/// The first node that may be at fault by itself.
+pub fn first_at_fault(nodes: &[&Expr], refused: &CompileError, whole: Whole) -> Option<usize>
+    ensures { result ≡ position (blame.is_at_fault whole refused.now) (exprs_of nodes.now) }
+{
+    nodes
+        .iter()
+        .position(|node| is_at_fault(refused, node, whole))
+}
 
-    /// The first node, unless the refusal may be for another one.
-    fn found(&self) -> Option<Found<'a>> {
-        match self.refused {
-            CompileError::NeverEndingRecursion if self.count > 1 => None,
-            _ => self.first,
-        }
+/// The only call, if there is one call only.
+pub fn only_call(nodes: &[&Expr]) -> Option<usize>
+    ensures { result ≡ blame.only_call (exprs_of nodes.now) }
+{
+    if nodes.iter().filter(|node| is_call(node)).count() == 1 {
+        nodes.iter().position(|node| is_call(node))
+    } else {
+        None
     }
 }
 
-/// The first node for which the tree is refused, if it is known that it is for this one. `info` is what the analysis says
-/// of the tree, if it says anything.
-pub fn first_blamed<'a>(
-    tree: &'a ExprTree,
-    info: Option<&Info<'a>>,
-    context: AnalyzeContext,
-    refused: &CompileError,
-) -> Option<Found<'a>> {
-    let mut finder = Finder {
-        refused,
-        tree: Whole {
-            groups: tree.total_groups,
-            longest: context.leftmost_longest,
-        },
-        passed: 0,
-        first: None,
-        count: 0,
-    };
-    let root = Node {
-        expr: &tree.expr,
-        group: 1,
-        info,
-    };
-    finder.note_all(root, MOST_LEVELS);
-    finder.found()
+/// The number of the next group behind the start of this node.
+fn next_after(expr: &Expr, next: usize) -> usize
+    requires { next < 2 ^ 63 }
+    ensures { result ≡ start_inside expr.now next }
+{
+    match expr {
+        Expr::Group(_) => next + 1,
+        _ => next,
+    }
+}
+
+/// The first group that is described so. The first group has the number `first`.
+pub fn described_at(
+    alloc: Global,
+    nodes: &[&Expr],
+    text: &str,
+    first: usize,
+) -> Result<Option<usize>, AllocError>
+    requires { first ≤ 1 }
+    ensures { IfOk result (λ at. at ≡ blame.described_from text.now first (exprs_of nodes.now)) }
+{
+    let mut next = first;
+    for at in 0..nodes.len() {
+        let node = nodes[at];
+        if is_described(alloc, text, node, next)? {
+            return Ok(Some(at));
+        }
+        next = next_after(node, next);
+    }
+    Ok(None)
+}
+
+/// How many leaves that are not empty are before the node with this index.
+fn leaves_before(nodes: &[&Expr], at: usize) -> usize
+    ensures { result ≡ leaves.leaves_before (exprs_of nodes.now) at }
+{
+    nodes.iter().take(at).filter(|node| is_plain(node)).count()
+}
+
+/// The same of the node with this index, if there is one.
+pub fn leaf_of(nodes: &[&Expr], at: Option<usize>) -> Option<usize>
+    ensures { result ≡ option_map (leaves.leaves_before (exprs_of nodes.now)) at }
+{
+    match at {
+        Some(at) => Some(leaves_before(nodes, at)),
+        None => None,
+    }
+}
+
+/// The node with this index.
+pub fn node_at<'a>(nodes: &[&'a Expr], at: Option<usize>) -> Option<&'a Expr>
+    ensures { option_map (λ e. e.now) result
+        ≡ option_and_then (slice_get (exprs_of nodes.now)) at }
+{
+    match at {
+        Some(at) => nodes.get(at).copied(),
+        None => None,
+    }
 }

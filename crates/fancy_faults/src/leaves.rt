@@ -1,8 +1,11 @@
 //! Where the leaves of a pattern's tree are in the pattern.
 
-ghost use Rattle.fancy_faults.specs.Faults.{IsPlaceIn};
+ghost use Rattle.std.specs.Prelude.{◌≡◌, ◌++◌, IfOk, chars, length, map, replicate};
+ghost use Rattle.fancy_meaning.specs.Places.{range_from};
+ghost use Rattle.fancy_faults.specs.Faults as faults;
+ghost use Rattle.fancy_faults.specs.Leaves.{AreLeafSpans, byte_of};
+ghost use Rattle.fancy_faults.specs.Leaves as leaves;
 
-use fancy_characters::places::is_place;
 use fancy_expr::expr::Expr;
 use fancy_expr::parts::part_count;
 use fancy_pattern::atom_spans::{AtomSpan, atom_spans};
@@ -13,8 +16,13 @@ use std::alloc::{AllocError, Global};
 pub type Span = (usize, usize);
 
 /// Whether the node is a leaf that has a span: it has no node below it, and is not empty.
-pub fn is_plain(expr: &Expr) -> bool {
-    !matches!(expr, Expr::Empty) && part_count(expr) == 0
+pub fn is_plain(expr: &Expr) -> bool
+    ensures { result ≡ leaves.is_plain expr.now }
+{
+    match expr {
+        Expr::Empty => false,
+        _ => part_count(expr) == 0,
+    }
 }
 
 /// Where the leaves of a pattern's tree are in it, in bytes: a span for each leaf that is not empty, in order.
@@ -26,46 +34,79 @@ pub fn leaf_spans(
     alloc: Global,
     pattern: &str,
     parsing: ParseOptions,
-) -> Result<Vec<Span>, AllocError> {
+) -> Result<Vec<Span>, AllocError>
+    ensures { IfOk result (λ spans. AreLeafSpans parsing pattern.now spans.items) }
+{
     let bytes = character_bytes(alloc, pattern)?;
     let atoms = atom_spans(alloc, pattern, parsing)?;
-    spans_of(alloc, &atoms, &bytes, pattern.len())
+    spans_of(alloc, pattern, &atoms, &bytes)
 }
 
-/// The span of each leaf of the atoms. A character begins at its byte of these, and the text ends at `end`.
-fn spans_of(
-    alloc: Global,
-    atoms: &[AtomSpan],
-    bytes: &[usize],
-    end: usize,
-) -> Result<Vec<Span>, AllocError> {
-    let mut spans = Vec::new(alloc);
-    for atom in atoms {
-        let first = bytes.get(atom.start).copied().unwrap_or(end);
-        let last = bytes.get(atom.end).copied().unwrap_or(end);
-        for _ in 0..atom.leaves {
-            spans.push((first, last))?;
-        }
-    }
-    Ok(spans)
+fn chars_of(alloc: Global, text: &str) -> Result<Vec<char>, AllocError>
+    ensures { IfOk result (λ v. v.items ≡ chars text.now) }
+{
+    text.chars().collect(alloc)
 }
 
 /// The byte where each character begins.
-fn character_bytes(alloc: Global, text: &str) -> Result<Vec<usize>, AllocError> {
+fn character_bytes(alloc: Global, text: &str) -> Result<Vec<usize>, AllocError>
+    ensures { IfOk result (λ bytes. bytes.items
+        ≡ map (byte_of text.now) (range_from 0 (length (chars text.now)))) }
+{
+    let chars = chars_of(alloc, text)?;
     let mut bytes = Vec::new(alloc);
-    for (at, _) in text.char_indices() {
+    let mut at: usize = 0;
+    for c in &chars {
         bytes.push(at)?;
+        at = at.saturating_add(c.len_utf8());
     }
     Ok(bytes)
 }
 
-/// Where the leaf with this index begins, if it is a place of the pattern.
-pub(crate) fn start_of(pattern: &str, spans: &[Span], leaf: usize) -> Option<usize>
-    ensures { IsPlaceIn pattern.now result }
+/// The byte where the character with this index begins, or the end of the text.
+fn byte_of(text: &str, bytes: &[usize], i: usize) -> usize
+    requires { bytes.now ≡ map (byte_of text.now) (range_from 0 (length (chars text.now))) }
+    ensures { result ≡ byte_of text.now i }
 {
-    match spans.get(leaf) {
-        Some((start, _)) if is_place(pattern.as_bytes(), *start) => Some(*start),
-        _ => None,
+    bytes.get(i).copied().unwrap_or(text.len())
+}
+
+/// Adds the span so many times.
+fn push_span(spans: &mut Vec<Span>, span: Span, count: usize) -> Result<(), AllocError>
+    ensures { IfOk result (λ u. spans.new.items ≡ spans.old.items ++ replicate count span) }
+{
+    for i in 0..count {
+        spans.push(span)?;
+    }
+    Ok(())
+}
+
+/// The span of each leaf of these atoms of the text. A character begins at its byte of these.
+fn spans_of(
+    alloc: Global,
+    text: &str,
+    atoms: &[AtomSpan],
+    bytes: &[usize],
+) -> Result<Vec<Span>, AllocError>
+    requires { bytes.now ≡ map (byte_of text.now) (range_from 0 (length (chars text.now))) }
+    ensures { IfOk result (λ spans. spans.items ≡ leaves.spans_of text.now atoms.now) }
+{
+    let mut spans = Vec::new(alloc);
+    for atom in atoms {
+        let start = byte_of(text, bytes, atom.start);
+        let end = byte_of(text, bytes, atom.end);
+        push_span(&mut spans, (start, end), atom.leaves)?;
+    }
+    Ok(spans)
+}
+
+/// Where the leaf with this index begins.
+pub(crate) fn start_of(spans: &[Span], leaf: Option<usize>) -> Option<usize>
+    ensures { result ≡ faults.start_of spans.now leaf }
+{
+    match spans.get(leaf?) {
+        Some((start, _)) => Some(*start),
+        None => None,
     }
 }
 

@@ -1,5 +1,5 @@
 -- What the calls of a host answer.
-use Rattle.std.specs.Prelude.{◌≡◌, ◌≢◌, ◌≤◌, ◌<◌, ℕ, ◌+◌, ◌-◌, ◌/◌, ◌^◌, true, false, not, Bool, IsFalse, IsTrue, IsUtf8, List, [], ◌∷◌, ◌++◌, chars, length, take, drop, min, Option, None, Some, option_and_then, option_map, unwrap_or, Result, Ok, Err, if◌then◌else◌, ◌==◌}
+use Rattle.std.specs.Prelude.{◌≡◌, ◌≢◌, ◌≤◌, ◌<◌, ◌⊎◌, ℕ, ◌+◌, ◌-◌, ◌/◌, ◌^◌, true, false, not, Bool, IsFalse, IsTrue, IsUtf8, List, [], ◌∷◌, ◌++◌, chars, length, take, drop, min, Option, None, Some, option_and_then, option_map, unwrap_or, Result, Ok, Err, if◌then◌else◌, ◌==◌}
 use Rattle.std.specs.Arc.{arc_value}
 use Rattle.std.specs.Option.{IsSome}
 use Rattle.std.specs.Str.Lossy.{utf8_valid_len}
@@ -26,7 +26,8 @@ use Rattle.fancy_expr.specs.declared.error.CompileError.TheVariants as refusal
 use Rattle.fancy_expr.specs.declared.expr.ExprTree.{ExprTree}
 use Rattle.fancy_expr.specs.Sound.{IsWellFormedTree}
 use Rattle.fancy_expr.specs.Views as views
-use Rattle.fancy_faults.specs.Faults.{IsPlaceIn}
+use Rattle.fancy_faults.specs.Faults.{IsFaultOf}
+use Rattle.fancy_faults.specs.declared.fault.Fault.{Fault}
 use Rattle.fancy_analysis.specs.AnalysisLimit.{analysis_nodes}
 use Rattle.fancy_analysis.specs.Names as analysis_names
 use Rattle.fancy_info.specs.declared.context.AnalyzeContext.{AnalyzeContext}
@@ -182,11 +183,12 @@ at_place None outcome = outcome
 at_place (Some at) outcome = record outcome { byte = at }
 
 -- The outcome of an error of what was read, of this pattern if it is one: a refusal of a pattern has the byte where the
--- piece begins that is refused, if it is one piece.
-abbrev pub IsFailureFor : Option (List ℕ) → Error → FancyOutcome → Type 0
-IsFailureFor (Some text) (error.CompileError refused) outcome =
-    (at : Option ℕ) × (IsPlaceIn text at × (outcome ≡ at_place at (failure (error.CompileError refused))))
-IsFailureFor pattern e outcome = outcome ≡ failure e
+-- piece begins that is refused, if it is one piece; or memory was wanted to find it.
+abbrev pub IsFailureFor : FancyOptions → Option (List ℕ) → Error → FancyOutcome → Type 0
+IsFailureFor o (Some text) (error.CompileError refused) outcome =
+    (outcome ≡ coded memory) ⊎ ((fault : Fault) × (IsFaultOf (parsing o) (analysis o) text refused fault
+    × (outcome ≡ at_place fault.at (failure (error.CompileError refused)))))
+IsFailureFor o pattern e outcome = outcome ≡ failure e
 
 -- why a pattern cannot be read, with the byte
 abbrev pub pattern_failure : PatternError → FancyOutcome
@@ -314,7 +316,7 @@ pub data FailsToCompile (o : FancyOptions) : Source → FancyOutcome → Type 0 
       FailsToCompile o source outcome
   refused : {source : Source} {outcome : FancyOutcome} (t : ExprTree) (e : Error) → IsRead source o t →
       ¬ ExceedsAnalysisLimit t o → IsRefusedAs (asked_of t o) (Some o.max_nesting) e →
-      IsFailureFor (pattern_in source) e outcome → FailsToCompile o source outcome
+      IsFailureFor o (pattern_in source) e outcome → FailsToCompile o source outcome
 
 -- Whether it nests as the options allow: a pattern is bounded where it is read.
 abbrev pub IsFlat : Source → FancyOptions → Type 0

@@ -1,12 +1,12 @@
 -- What outcomes say as sentences for a reader, and why a pattern has no program.
-use Rattle.std.specs.Prelude.{◌≡◌, ◌==◌, ◌⊎◌, ℕ, IsTrue, IsUtf8, List, [], ◌∷◌, ◌++◌, chars, codes, decimal, length, slice_index_or, unwrap_or, Option, None, Some, if◌then◌else◌}
+use Rattle.std.specs.Prelude.{◌≡◌, ◌==◌, ◌⊎◌, ℕ, IsTrue, IsUtf8, List, [], ◌∷◌, ◌++◌, chars, codes, decimal, length, slice_index_or, string_bytes, unwrap_or, Some, if◌then◌else◌}
 use Rattle.fancy_meaning.specs.Numbers.{usize_max}
 use Rattle.fancy_expr.specs.declared.error.Error.{Error}
 use Rattle.fancy_expr.specs.declared.error.Error.TheVariants as error
 use Rattle.fancy_expr.specs.declared.error.CompileError.{CompileError}
 use Rattle.fancy_expr.specs.declared.expr.ExprTree.{ExprTree}
-use Rattle.fancy_faults.specs.Faults.{IsPlaceIn}
-use Rattle.fancy_faults.specs.Words.{IsSaidOf}
+use Rattle.fancy_faults.specs.Faults.{IsFaultOf}
+use Rattle.fancy_faults.specs.declared.fault.Fault.{Fault}
 use Rattle.fancy_pattern.specs.Spelling as spelling
 use Rattle.fancy_pattern.specs.declared.error.PatternError.{PatternError}
 use Rattle.fancy_search.specs.declared.search.Compiled.{Compiled}
@@ -14,7 +14,7 @@ use Rattle.fancy_search.specs.Searches.{IsCompiledFrom, IsNestedOver, IsRefusedA
 use Rattle.fancy_host.specs.declared.options.FancyOptions.{FancyOptions}
 use Rattle.fancy_host.specs.declared.outcome.FancyOutcome.{FancyOutcome}
 use Rattle.fancy_host.specs.Codes.{memory}
-use Rattle.fancy_host.specs.Hosted.{ExceedsAnalysisLimit, IsNoText, IsRead, IsUnanalysed, asked_of, ended, failure, has_size, parsing, pattern, pattern_failure}
+use Rattle.fancy_host.specs.Hosted.{ExceedsAnalysisLimit, IsNoText, IsRead, IsUnanalysed, analysis, asked_of, ended, failure, has_size, parsing, pattern, pattern_failure}
 
 -- the sentence of each code, from 0 up
 abbrev pub sentences : List (List ℕ)
@@ -81,17 +81,15 @@ abbrev pub message : FancyOutcome → List ℕ
 message o = at_byte o.byte ++ (sentence_of o.code ++ of_group o.group)
 
 -- what is said of a refusal of this pattern: where the piece is that is refused, if it is one, and why
-pub record IsRefusal (pattern : List ℕ) (refused : CompileError) (text : List ℕ) : Type 0 where
-  pub at : Option ℕ
-  pub words : List ℕ
-  pub place : IsPlaceIn pattern at
-  pub says : IsSaidOf refused words
-  pub whole : text ≡ at_byte (unwrap_or at usize_max) ++ words
+pub record IsRefusal (o : FancyOptions) (pattern : List ℕ) (refused : CompileError) (text : List ℕ) : Type 0 where
+  pub fault : Fault
+  pub is : IsFaultOf (parsing o) (analysis o) pattern refused fault
+  pub whole : text ≡ at_byte (unwrap_or fault.at usize_max) ++ string_bytes fault.message
 
 -- what is said of an error of a pattern that was read
-abbrev pub IsExplanation : List ℕ → Error → List ℕ → Type 0
-IsExplanation bytes (error.CompileError refused) text = IsRefusal bytes refused text
-IsExplanation bytes e text = text ≡ message (failure e)
+abbrev pub IsExplanation : FancyOptions → List ℕ → Error → List ℕ → Type 0
+IsExplanation o bytes (error.CompileError refused) text = IsRefusal o bytes refused text
+IsExplanation o bytes e text = text ≡ message (failure e)
 
 -- why these bytes have no program as a pattern; an empty text where they have one
 pub data Explains (bytes : List ℕ) (o : FancyOptions) : List ℕ → Type 0 where
@@ -102,7 +100,7 @@ pub data Explains (bytes : List ℕ) (o : FancyOptions) : List ℕ → Type 0 wh
       IsUnanalysed t o outcome → Explains bytes o (message outcome)
   refused : IsTrue (has_size o) → IsUtf8 bytes → (t : ExprTree) (e : Error) → IsRead (pattern bytes) o t →
       ¬ ExceedsAnalysisLimit t o → IsRefusedAs (asked_of t o) (Some o.max_nesting) e → {text : List ℕ} →
-      IsExplanation bytes e text → Explains bytes o text
+      IsExplanation o bytes e text → Explains bytes o text
   has_program : IsTrue (has_size o) → IsUtf8 bytes → (t : ExprTree) (c : Compiled) → IsRead (pattern bytes) o t →
       ¬ ExceedsAnalysisLimit t o → IsCompiledFrom (asked_of t o) c → ¬ IsNestedOver (asked_of t o) (Some o.max_nesting) →
       Explains bytes o []

@@ -108,7 +108,7 @@ fn refusal_text(
     options: &FancyOptions,
     refused: &CompileError,
 ) -> Result<String, AllocError>
-    ensures { IfOk result (λ text. IsRefusal pattern.now refused.now (string_bytes text)) }
+    ensures { IfOk result (λ text. IsRefusal options.now pattern.now refused.now (string_bytes text)) }
 {
     let context = options.request().analysis();
     let fault = fault_of(alloc, pattern, options.parsing(), context, refused)?;
@@ -124,7 +124,7 @@ fn explained(
     options: &FancyOptions,
     error: &Error,
 ) -> Result<String, AllocError>
-    ensures { IfOk result (λ text. IsExplanation pattern.now error.now (string_bytes text)) }
+    ensures { IfOk result (λ text. IsExplanation options.now pattern.now error.now (string_bytes text)) }
 {
     match error {
         Error::CompileError(refused) => refusal_text(alloc, pattern, options, refused),

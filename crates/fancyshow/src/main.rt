@@ -4,6 +4,7 @@
 mod all;
 mod arrows;
 mod batch;
+mod blame;
 mod commands;
 mod dot;
 mod excerpt;

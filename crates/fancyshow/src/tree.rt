@@ -2,6 +2,7 @@
 
 ghost use Rattle.fancy_expr.specs.Sound.{IsWellFormedTree};
 
+use crate::blame::{Node, is_blamed};
 use crate::excerpt::{push_shown, push_times, push_to_column};
 use crate::list::compile;
 use crate::nodes::{group_of, push_node};
@@ -14,7 +15,7 @@ use fancy_command::command::MOST_DEPTH;
 use fancy_expr::error::{CompileError, Error};
 use fancy_expr::expr::{Expr, ExprTree};
 use fancy_expr::parts::part_count;
-use fancy_faults::blame::{Node, Whole, is_blamed};
+use fancy_faults::blame::Whole;
 use fancy_faults::leaves::is_plain;
 use fancy_faults::words::words as refusal_words;
 use fancy_info::info::Info;
@@ -126,7 +127,7 @@ impl Page<'_, '_> {
         let Some(refused) = self.refused else {
             return Ok(());
         };
-        if !is_blamed(refused, node, self.tree) {
+        if !is_blamed(self.alloc, refused, node, self.tree)? {
             return Ok(());
         }
         self.blamed = self.blamed.saturating_add(1);
@@ -183,9 +184,10 @@ fn write_page<'a>(
     info: Option<&Info<'a>>,
     refused: Option<&CompileError>,
 ) -> Result<String, AllocError> {
+    let whole = Whole::of(tree, request.arguments.analysis());
     let root = Node {
         expr: &tree.expr,
-        group: 1,
+        group: whole.first,
         info,
     };
     let mut page = Page {
@@ -196,10 +198,7 @@ fn write_page<'a>(
         spans: leaf_spans(alloc, request)?,
         passed: 0,
         refused,
-        tree: Whole {
-            groups: tree.total_groups,
-            longest: request.arguments.longest,
-        },
+        tree: whole,
         blamed: 0,
     };
     page.push_all(root, 0, MOST_LEVELS)?;

@@ -57,7 +57,7 @@ returns c =
     let read = read_so bytes o tree c.in-Ok.text.now c.parsing.result c.in-Ok.ensures.0 c.parsing.ensures c.in-Ok-parse_tree.ensures.answer in
     let as_analysed = c.analysis.ensures ∙ ap asked.analysis c.request-request.ensures in
     let as_compiled = c.compilation.ensures ∙ ap asked.compilation c.request-request.ensures in
-    told_by c.explained.result (λ text. string_bytes text) (IsExplanation c.in-Ok.text.now e) (Explains bytes o) c.explained.ensures
+    told_by c.explained.result (λ text. string_bytes text) (IsExplanation o c.in-Ok.text.now e) (Explains bytes o) c.explained.ensures
     (λ text is. refused c.in-Ok.ensures.1 c.in-Ok.ensures.2 tree e read c.in_default.ensures
     (refused_by tree o c.analysis.result c.compilation.result as_analysed as_compiled e c.in-Err-new.ensures.made)
-    (subst (λ t. IsExplanation t e text) c.in-Ok.ensures.0 is))
+    (subst (λ t. IsExplanation o t e text) c.in-Ok.ensures.0 is))

@@ -78,4 +78,4 @@ returns c =
     (read_so bytes o tree c.in_ok-text.text.now c.parsing.result c.in_ok-text.ensures.0 c.parsing.ensures c.in-Ok.ensures.answer)
     c.in_ok-check_analysis.ensures
     (refused_by tree o s.result.analysis s.result.compilation s.ensures.analysis s.ensures.compilation c.in-Err-new.error c.in-Err-new.ensures)
-    (subst (λ t. IsFailureFor (Some t) c.in-Err-new.error c.failure_of.result) c.in_ok-text.ensures.0 c.failure_of.ensures))
+    (subst (λ t. IsFailureFor o (Some t) c.in-Err-new.error c.failure_of.result) c.in_ok-text.ensures.0 c.failure_of.ensures))

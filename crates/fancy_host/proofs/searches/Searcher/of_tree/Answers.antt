@@ -16,7 +16,7 @@ returns-in-Err c =
     λ (source : Source) (read : IsRead source c.args.options.now c.args.tree)
     (of_it : pattern_in source ≡ option_map (λ text. text.now) c.args.pattern).
     refused c.args.tree c.in-Err.error read c.in_ok-check_analysis.ensures c.in-Err.ensures
-    (subst (λ p. IsFailureFor p c.in-Err.error c.failure_of.result) (sym of_it) c.failure_of.ensures)
+    (subst (λ p. IsFailureFor c.args.options.now p c.in-Err.error c.failure_of.result) (sym of_it) c.failure_of.ensures)
 
 pub of_tree_within_limit-requires-clause-analysed_within : goal.of_tree_within_limit-requires-clause-analysed_within
 of_tree_within_limit-requires-clause-analysed_within c = c.in_ok-check_analysis.ensures
