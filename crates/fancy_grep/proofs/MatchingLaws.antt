@@ -1,6 +1,6 @@
 -- The lines that are selected, one after the other.
-use Rattle.std.proofs.Common.{◌≡◌, inl, inr, ℕ, suc, ◌≤◌, Bool, false, true, Bor, IfSome, Option, Some, None, is_some, option_map, List, [], ◌∷◌, ◌++◌, map, append_assoc, append-nil, Result, Ok, Err, refl, sym, ap, subst, ◌∙◌, arith}
-use Rattle.std.proofs.lemmas.List.{map-append}
+use Rattle.std.proofs.Common.{◌≡◌, inl, inr, ℕ, suc, ◌≤◌, ◌<◌, length, take, Bool, false, true, Bor, IfSome, Option, Some, None, is_some, option_map, List, [], ◌∷◌, ◌++◌, map, append_assoc, append-nil, Result, Ok, Err, refl, sym, ap, subst, ◌∙◌, arith}
+use Rattle.std.proofs.lemmas.List.{length-append, length-map, map-append, take-append-le, take_all}
 use Rattle.std.proofs.lemmas.List.Elements.{filter-append}
 use Rattle.std.proofs.lemmas.Option.{none-some, same_Some}
 use Rattle.fancy_meaning.specs.Options as plain
@@ -73,6 +73,13 @@ rises_with next line before after is (inr more) h =
     let ends : RiseTo 1 (suc next) (numbers_of before ++ line.number ∷ []) = subst (λ n. RiseTo 1 (suc next) (numbers_of before ++ n ∷ [])) (sym is) one in
     subst (λ ls. RiseTo 1 (suc next) (numbers_of ls)) (sym more)
     (subst (RiseTo 1 (suc next)) (sym (map-append (λ (l : code.Line). l.number) before (line ∷ []))) ends)
+
+-- ---- so many lines at most
+
+pub still_few : (most : ℕ) (line : code.Line) (before after : List code.Line) → length before < most → Grows line before after →
+    length after ≤ most
+still_few most line before after few (inl same) = omega (arith, few, ap length same)
+still_few most line before after few (inr more) = omega (arith, few, ap length more, length-append before (line ∷ []))
 
 -- ---- what is selected
 
@@ -183,6 +190,11 @@ module _ (r : Regex) (required : Option (Bor Required)) (inverted : Bool) (text 
           fails = taken.1;
         }
 
+    pub stopped_few : (e : Error) → Took s now inverted line lines (Err e) more t after → (most : ℕ) → length lines < most →
+        (i : Input) (o : List ℕ → plain.RunOptions) → IsRegexFor i o r → IsRequiredOf i required → length more < most
+    stopped_few e took most few i o is required =
+        omega (arith, few, ap length (took.promise i o (is_for_same i o r s h.same is) (line_helps i required)).0)
+
     pub stopped_rises : (e : Error) → Took s now inverted line lines (Err e) more t after → AreRising 1 (numbers_of more)
     stopped_rises e took = rise 1 (suc h.next) (numbers_of more) (rises_with h.next line lines more h.counted.0 took.grows h.rises)
 
@@ -207,6 +219,26 @@ module _ (r : Regex) (required : Option (Bor Required)) (inverted : Bool) (text 
         IsRegexFor i o r → IsRequiredOf i required → map line_of lines ≡ selected i o inverted (lines_of text)
     searched_all h none i o is required =
         h.selects i o is required ∙ ap (selected i o inverted) (sym (append-nil h.before) ∙ sym (h.split ∙ ap (λ l. h.before ++ l) none))
+
+    -- so many are found, and the lines that are left are not searched
+    pub searched_most : (most : ℕ) → Searched r required inverted text lines s now left → length lines ≤ most → most ≤ length lines →
+        (i : Input) (o : List ℕ → plain.RunOptions) → IsRegexFor i o r → IsRequiredOf i required →
+        map line_of lines ≡ take most (selected i o inverted (lines_of text))
+    searched_most most h few many i o is required =
+        let long = length-map lines line_of in
+        sym
+        (ap (λ ls. take most (selected i o inverted ls)) h.split ∙ ap (take most) (filter-append (is_selected i o inverted) h.before left)
+        ∙ ap (λ ls. take most (ls ++ selected i o inverted left)) (sym (h.selects i o is required))
+        ∙ take-append-le most (map line_of lines) (selected i o inverted left) (omega (arith, many, long))
+        ∙ take_all most (map line_of lines) (omega (arith, few, long)))
+
+    -- no line is left
+    pub searched_few : (most : ℕ) → Searched r required inverted text lines s now left → length lines ≤ most → left ≡ [] →
+        (i : Input) (o : List ℕ → plain.RunOptions) → IsRegexFor i o r → IsRequiredOf i required →
+        map line_of lines ≡ take most (selected i o inverted (lines_of text))
+    searched_few most h few none i o is required =
+        let all = searched_all h none i o is required in
+        all ∙ sym (take_all most (selected i o inverted (lines_of text)) (omega (arith, few, ap length all, length-map lines line_of)))
 
     pub all_rises : Searched r required inverted text lines s now left → AreRising 1 (numbers_of lines)
     all_rises h = rise 1 h.next (numbers_of lines) h.rises

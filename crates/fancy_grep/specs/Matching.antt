@@ -1,5 +1,5 @@
 -- Which lines of a text are selected: those in which there is a match, by what the engine promises of a search.
-use Rattle.std.specs.Prelude.{◌≡◌, ◌⊎◌, ℕ, Bool, true, not, List, [], ◌∷◌, ◌++◌, map, filter, IfSome, MatchOption, Option, Result, Ok, Err, is_some, if◌then◌else◌}
+use Rattle.std.specs.Prelude.{◌≡◌, ◌⊎◌, ◌<◌, length, take, ℕ, Bool, true, not, List, [], ◌∷◌, ◌++◌, map, filter, IfSome, MatchOption, Option, Result, Ok, Err, is_some, if◌then◌else◌}
 use Rattle.fancy_meaning.specs.Answer.{answer, search_of}
 use Rattle.fancy_meaning.specs.Options as plain
 use Rattle.fancy_meaning.specs.Premises.{Input, plan}
@@ -83,9 +83,10 @@ module _ (i : Input) (o : List ℕ → plain.RunOptions) where
   EndsAt inverted text lines left number (cause.Search e) = StopsAt inverted text lines number e
   EndsAt inverted text lines left number cause.UsedUp = (left ≡ 0) × LeavesFrom inverted text lines number
 
-  -- These lines of the text are selected: of all, or of those before the one at which the search ends. So much is left of
-  -- the budget then.
-  abbrev pub Selects : Bool → List ℕ → (left : ℕ) → MatchingLines → Type 0
-  Selects inverted text left found = MatchOption found.failure
-      (map line_of found.lines.items ≡ selected inverted (lines_of text))
-      (λ f. EndsAt inverted text (map line_of found.lines.items) left f.number f.cause)
+  -- These lines of the text are selected, at most so many: of all, or of those before the one at which the search ends. It
+  -- ends there only before it has so many. So much is left of the budget then.
+  abbrev pub Selects : Bool → List ℕ → (most left : ℕ) → MatchingLines → Type 0
+  Selects inverted text most left found = MatchOption found.failure
+      (map line_of found.lines.items ≡ take most (selected inverted (lines_of text)))
+      (λ f. (length found.lines.items < most)
+      × EndsAt inverted text (map line_of found.lines.items) left f.number f.cause)

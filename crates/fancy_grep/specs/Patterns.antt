@@ -1,5 +1,6 @@
--- The pattern that is searched for.
-use Rattle.std.specs.Prelude.{ℕ, List, [], ◌++◌, chars, codes, encode_utf8_all, if◌then◌else◌}
+-- The pattern that is searched for, of those that are given.
+use Rattle.std.specs.Prelude.{ℕ, Bool, List, [], ◌∷◌, ◌++◌, map, chars, codes, encode_utf8_all, if◌then◌else◌}
+use Rattle.std.specs.List.{join_by}
 use Rattle.fancy_pattern.specs.Escape.{escaped}
 use Rattle.fancy_grep.specs.declared.patterns.Extent.{Extent}
 use Rattle.fancy_grep.specs.declared.patterns.Extent.TheVariants.{Line, Part, Word}
@@ -21,5 +22,14 @@ abbrev pub wrapped : Extent → List ℕ → List ℕ
 wrapped extent pattern = before_pattern extent ++ (pattern ++ after_pattern extent)
 
 -- a text is escaped, so that its characters stand for themselves
-abbrev pub asked : PatternOptions → List ℕ → List ℕ
-asked o pattern = wrapped o.extent (if o.is_text then encode_utf8_all (escaped (chars pattern)) else pattern)
+abbrev pub read_as : Bool → List ℕ → List ℕ
+read_as is_text pattern = if is_text then encode_utf8_all (escaped (chars pattern)) else pattern
+
+-- The pattern whose matches are those of any of these, earlier ones first. One is left as it is, and none never match.
+abbrev pub alternation : List (List ℕ) → List ℕ
+alternation [] = codes "(?!)"
+alternation (pattern ∷ []) = pattern
+alternation (first ∷ second ∷ others) = codes "(?:" ++ (join_by (λ p. p) (codes ")|(?:") (first ∷ second ∷ others) ++ codes ")")
+
+abbrev pub asked : PatternOptions → List (List ℕ) → List ℕ
+asked o patterns = wrapped o.extent (alternation (map (read_as o.is_text) patterns))

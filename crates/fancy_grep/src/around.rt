@@ -57,6 +57,13 @@ impl Around {
         self.keep(context.before, bytes, count)
     }
 
+    /// Goes past a line that is not known.
+    pub fn skip(&mut self) {
+        self.owed = self.owed.saturating_sub(1);
+        self.count = 0;
+        self.tail.clear();
+    }
+
     /// Keeps at least the last `before` lines, and at most as many again and those that come.
     fn keep(&mut self, before: usize, bytes: &[u8], count: usize) -> Result<(), AllocError> {
         if count >= before {

@@ -3,7 +3,7 @@
 use crate::excerpt::push_excerpt;
 use crate::matching::{Cause, Failure};
 use crate::output::Output;
-use crate::patterns::{Extent, Matcher, PatternOptions, matcher_of};
+use crate::patterns::{Extent, Matcher, PatternOptions, alternation, matcher_of};
 use crate::reports::{Part, Search};
 use crate::settings::{Report, Settings};
 use fancy_faults::fault::{Fault, fault_of};
@@ -122,13 +122,20 @@ impl<'r> Run<'r> {
     }
 
     /// Searches a line that is not all UTF-8. Its line end is no part of what it reads as.
-    fn search_broken(&mut self, search: &mut Search<'_>, name: &str, line: &[u8]) -> bool {
+    fn search_broken(
+        &mut self,
+        search: &mut Search<'_>,
+        name: &str,
+        line: &[u8],
+        start: usize,
+    ) -> bool {
         let bytes = line.strip_suffix(b"\n").unwrap_or(line);
         match read_as(self.rt.alloc(), bytes) {
             Ok(text) => {
                 let part = Part {
                     text: text.as_str(),
                     bytes: line,
+                    start,
                     is_broken: true,
                 };
                 self.search_part(search, name, part)
@@ -150,9 +157,10 @@ impl<'r> Run<'r> {
                 break;
             }
             let (piece, rest) = split_piece(left);
+            let start = search.place(left);
             let goes_on = match piece {
-                Piece::Text(text) => self.search_part(search, name, Part::of_text(text)),
-                Piece::Broken(line) => self.search_broken(search, name, line),
+                Piece::Text(text) => self.search_part(search, name, Part::of_text(text, start)),
+                Piece::Broken(line) => self.search_broken(search, name, line, start),
             };
             if !goes_on || search.is_done() || self.is_closed() {
                 return false;
@@ -180,7 +188,7 @@ impl<'r> Run<'r> {
                 Err(BlockError::LineTooLong) => {
                     self.fail_line(name, search.next_number());
                     search.skip_line();
-                    blocks.skip_line().is_ok()
+                    search.can_skip() && blocks.skip_line().is_ok()
                 }
             };
             if !goes_on {
@@ -279,7 +287,7 @@ impl<'r> Run<'r> {
     /// Searches the files in a folder and in those below it, with their names.
     fn search_folder(&mut self, settings: &Settings<'_>, folder: &str) -> Result<(), AllocError> {
         let settings = Settings {
-            has_names: true,
+            has_names: Some(settings.has_names.unwrap_or(true)),
             ..*settings
         };
         let mut left = Vec::new(self.rt.alloc());
@@ -418,25 +426,33 @@ fn refuse(
 /// Searches files, and returns the status, or an error if there is no memory for the program itself.
 fn search_all(
     rt: &HostRuntime,
-    pattern: &str,
+    patterns: &[String],
     settings: &Settings<'_>,
     paths: &[&str],
 ) -> Result<u8, AllocError> {
-    if let Some(error) = fault_alone(rt, pattern, settings.pattern) {
-        let alone = PatternOptions {
-            extent: Extent::Part,
-            ..settings.pattern
-        };
-        return refuse(rt, pattern, alone, error);
-    }
-    let matcher = match matcher_of(rt.alloc(), pattern, settings.pattern) {
-        Ok(matcher) => matcher,
-        Err(error) => return refuse(rt, pattern, settings.pattern, error),
+    let alone = PatternOptions {
+        extent: Extent::Part,
+        ..settings.pattern
     };
+    for pattern in patterns {
+        if let Some(error) = fault_alone(rt, pattern.as_str(), alone) {
+            return refuse(rt, pattern.as_str(), alone, error);
+        }
+    }
+    let matcher = match matcher_of(rt.alloc(), patterns, settings.pattern) {
+        Ok(matcher) => matcher,
+        Err(error) => {
+            let whole = alternation(rt.alloc(), patterns, settings.pattern.is_text)?;
+            return refuse(rt, whole.as_str(), settings.pattern, error);
+        }
+    };
+    if settings.most == Some(0) && !matches!(settings.report, Report::NameWithout) {
+        return Ok(1);
+    }
     let mut run = Run {
         rt,
         matcher,
-        out: Output::new(rt.alloc(), rt.stdout()),
+        out: Output::new(rt.alloc(), rt.stdout(), settings.is_line_buffered),
         report: settings.report,
         is_silent: settings.is_silent,
         is_selected: false,
@@ -450,8 +466,15 @@ fn search_all(
 
 /// Searches files, and returns the status of the program: 0 if a line is selected, 1 if none is, and 2 if something failed,
 /// which standard error reports.
-pub fn search(rt: &HostRuntime, pattern: &str, settings: &Settings<'_>, paths: &[&str]) -> u8 {
-    match search_all(rt, pattern, settings, paths) {
+///
+/// A line matches if any of the patterns has a match in it. Under `-m 0` nothing is searched, as by grep.
+pub fn search(
+    rt: &HostRuntime,
+    patterns: &[String],
+    settings: &Settings<'_>,
+    paths: &[&str],
+) -> u8 {
+    match search_all(rt, patterns, settings, paths) {
         Ok(status) => status,
         Err(_) => {
             let _unwritten = eprintln!(rt; "fancygrep: out of memory");

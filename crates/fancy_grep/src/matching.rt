@@ -122,7 +122,7 @@ fn take<'t>(
     Ok(())
 }
 
-/// The lines of a text in which the regex has a match, or under `inverted` those in which it has none.
+/// The lines of a text in which the regex has a match, or under `inverted` those in which it has none, and `most` at most.
 ///
 /// Each line is searched as a text of its own, without its `\n`. Where it is known what each match takes, this is looked
 /// for in the whole text, and the lines without it are not searched. An error of a search, or out of memory, ends
@@ -133,13 +133,14 @@ pub fn matching_lines<'t>(
     required: Option<&Required>,
     text: &'t str,
     inverted: bool,
+    most: usize,
     budget: &mut Budget,
 ) -> MatchingLines<'t>
     ensures promise { (i : Input)
         → (o : List ℕ → plain.RunOptions)
         → IsRegexFor i o regex.old
         → IfSome required.entry (λ r. IsRequired (required_of r.now) true i)
-        → Selects i o inverted text.now budget.new.left result }
+        → Selects i o inverted text.now most budget.new.left result }
     ensures rising { AreRising 1 (numbers_of result.lines.items) }
     ensures same { IsSame regex.old regex.new }
 {
@@ -147,6 +148,12 @@ pub fn matching_lines<'t>(
     let mut occurrences = occurrences_of(required, text);
     for line in Lines::new(text) {
         let number = line.number;
+        if lines.len() >= most {
+            return MatchingLines {
+                lines,
+                failure: None,
+            };
+        }
         if budget.is_used_up() {
             let cause = Cause::UsedUp;
             return MatchingLines {

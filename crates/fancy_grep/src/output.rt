@@ -7,23 +7,25 @@ use std::{io, mem};
 /// How many bytes are kept before they are written.
 const MOST_KEPT: usize = 65_536;
 
-/// Standard output, written by lines to a terminal, and else by blocks.
+/// Standard output, written by lines or by blocks.
 #[derive(Drop)]
 pub struct Output {
     stdout: Stdout,
     /// What is not written yet.
     pub(crate) kept: Vec<u8>,
-    is_terminal: bool,
+    /// It is written by lines.
+    by_lines: bool,
     /// The error of the first write that failed. Nothing is written after it.
     error: Option<io::Error>,
 }
 
 impl Output {
-    pub fn new(alloc: Global, stdout: Stdout) -> Output {
+    /// It is written by lines if that is asked for, and to a terminal.
+    pub fn new(alloc: Global, stdout: Stdout, by_lines: bool) -> Output {
         Output {
             stdout,
             kept: Vec::new(alloc),
-            is_terminal: stdout.is_terminal(),
+            by_lines: by_lines || stdout.is_terminal(),
             error: None,
         }
     }
@@ -41,7 +43,7 @@ impl Output {
     /// Ends a line, and writes what is kept if that is enough.
     pub fn end_line(&mut self) -> Result<(), AllocError> {
         self.kept.push(b'\n')?;
-        if self.is_terminal || self.kept.len() >= MOST_KEPT {
+        if self.by_lines || self.kept.len() >= MOST_KEPT {
             self.flush();
         }
         Ok(())

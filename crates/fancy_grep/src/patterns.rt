@@ -1,11 +1,11 @@
 //! From a pattern with its options to a regex.
 
-ghost use Rattle.std.specs.Prelude.{◌≡◌, IfOk, MatchResult, string_bytes, unwrap_or};
+ghost use Rattle.std.specs.Prelude.{◌≡◌, ◌++◌, IfOk, MatchResult, map, string_bytes, unwrap_or};
 ghost use Rattle.std.specs.Option.{option_or};
 ghost use Rattle.fancy_expr.specs.declared.expr.ExprTree.{ExprTree};
 ghost use Rattle.fancy_regex.specs.Builders.{IsBuilt, IsRefused, IsTreeOf, options as options_in, with_options};
 ghost use Rattle.fancy_grep.specs.Matchers.{IsMatcherOf, IsRequiredIn};
-ghost use Rattle.fancy_grep.specs.Patterns.{asked, wrapped};
+ghost use Rattle.fancy_grep.specs.Patterns.{alternation, asked, read_as, wrapped};
 ghost use Rattle.fancy_grep.specs.RegexOptions.{limited, options_for};
 
 use fancy_literals::required::{Required, required_by};
@@ -75,9 +75,15 @@ impl PatternOptions {
 fn wrapped(alloc: Global, extent: Extent, pattern: &str) -> Result<String, AllocError>
     ensures { IfOk result (λ s. string_bytes s ≡ wrapped extent pattern.now) }
 {
-    let mut whole = String::new(alloc);
     let (before, after) = extent.around();
-    whole.push_str(before)?;
+    enclosed(alloc, before, pattern, after)
+}
+
+/// A pattern with what is before it and after it.
+fn enclosed(alloc: Global, before: &str, pattern: &str, after: &str) -> Result<String, AllocError>
+    ensures { IfOk result (λ s. string_bytes s ≡ before.now ++ (pattern.now ++ after.now)) }
+{
+    let mut whole = String::from_str(alloc, before)?;
     whole.push_str(pattern)?;
     whole.push_str(after)?;
     Ok(whole)
@@ -99,16 +105,56 @@ impl Extent {
     }
 }
 
-/// The pattern that is searched for.
-fn asked(alloc: Global, pattern: &str, options: PatternOptions) -> Result<String, AllocError>
-    ensures { IfOk result (λ s. string_bytes s ≡ asked options pattern.now) }
+/// A pattern as it is read: a text is escaped.
+fn read_as(alloc: Global, pattern: &str, is_text: bool) -> Result<String, AllocError>
+    ensures { IfOk result (λ s. string_bytes s ≡ read_as is_text pattern.now) }
 {
-    if options.is_text {
-        let escaped = escape(alloc, pattern)?;
-        wrapped(alloc, options.extent, escaped.as_str())
+    if is_text {
+        escape(alloc, pattern)
     } else {
-        wrapped(alloc, options.extent, pattern)
+        String::from_str(alloc, pattern)
     }
+}
+
+/// The patterns, each as it is read.
+fn all_read(alloc: Global, patterns: &[String], is_text: bool) -> Result<Vec<String>, AllocError>
+    ensures { IfOk result (λ read. map string_bytes read.items
+        ≡ map (read_as is_text) (map string_bytes patterns.now)) }
+{
+    let mut read = Vec::new(alloc);
+    for pattern in patterns {
+        read.push(read_as(alloc, pattern.as_str(), is_text)?)?;
+    }
+    Ok(read)
+}
+
+/// The pattern whose matches are those of any of the patterns.
+pub(crate) fn alternation(
+    alloc: Global,
+    patterns: &[String],
+    is_text: bool,
+) -> Result<String, AllocError>
+    ensures { IfOk result (λ s. string_bytes s
+        ≡ alternation (map (read_as is_text) (map string_bytes patterns.now))) }
+{
+    let read = all_read(alloc, patterns, is_text)?;
+    match read.as_slice() {
+        [] => String::from_str(alloc, "(?!)"),
+        [pattern] => String::from_str(alloc, pattern.as_str()),
+        several => {
+            let parts = several.join(alloc, ")|(?:")?;
+            enclosed(alloc, "(?:", parts.as_str(), ")")
+        }
+    }
+}
+
+/// The pattern that is searched for.
+fn asked(alloc: Global, patterns: &[String], options: PatternOptions) -> Result<String, AllocError>
+    ensures { IfOk result (λ s. string_bytes s
+        ≡ asked options (map string_bytes patterns.now)) }
+{
+    let whole = alternation(alloc, patterns, options.is_text)?;
+    wrapped(alloc, options.extent, whole.as_str())
 }
 
 /// What is searched for in each line.
@@ -119,15 +165,19 @@ pub struct Matcher {
     pub required: Option<Required>,
 }
 
-/// The regex of a pattern with its options, and what each match takes.
+/// The regex of the patterns with their options, and what each match takes.
 ///
-/// It is refused as `RegexBuilder::build` refuses that pattern. Out of memory is `Error::Memory`.
-pub fn matcher_of(alloc: Global, pattern: &str, options: PatternOptions) -> Result<Matcher, Error>
+/// It is refused as `RegexBuilder::build` refuses the pattern that is asked for. Out of memory is `Error::Memory`.
+pub fn matcher_of(
+    alloc: Global,
+    patterns: &[String],
+    options: PatternOptions,
+) -> Result<Matcher, Error>
     ensures { MatchResult result
-        (IsMatcherOf (asked options pattern.now) (options_for options))
-        (IsRefused (asked options pattern.now) (options_for options)) }
+        (IsMatcherOf (asked options (map string_bytes patterns.now)) (options_for options))
+        (IsRefused (asked options (map string_bytes patterns.now)) (options_for options)) }
 {
-    let whole = asked(alloc, pattern, options)?;
+    let whole = asked(alloc, patterns, options)?;
     let regex = regex_of(alloc, whole.as_str(), options)?;
     let required = required_in(alloc, whole.as_str(), options)?;
     Ok(Matcher { regex, required })

@@ -10,9 +10,20 @@ use std::alloc::AllocError;
 pub struct Style<'a> {
     /// The name of the text, where lines begin with it.
     pub name: Option<&'a str>,
-    /// Lines begin with their numbers.
-    pub has_numbers: bool,
+    /// A zero byte is after the name.
+    pub has_zeros: bool,
     pub has_colours: bool,
+}
+
+/// Where a line or a match is, as far as it is written.
+#[derive(Clone, Copy)]
+pub struct Place {
+    /// The number of the line, from 1.
+    pub number: Option<usize>,
+    /// The byte of the line, from 1.
+    pub column: Option<usize>,
+    /// The byte of the file, from 0.
+    pub offset: Option<usize>,
 }
 
 /// The colours of grep: of a match, a name, a number and what separates them.
@@ -55,46 +66,49 @@ pub fn push_painted(
 
 /// Writes the name of a line's text and what separates it from the rest, where lines begin with it.
 pub fn push_name(out: &mut Vec<u8>, style: Style<'_>, separator: &str) -> Result<(), AllocError>
-    ensures { OnOk result (out.new.items ≡ out.old.items
-        ++ name_part style.entry.has_colours style.entry.name separator.now) }
+    ensures { OnOk result (out.new.items
+        ≡ out.old.items ++ name_part style.entry separator.now) }
 {
-    match style.name {
-        Some(name) => {
-            push_painted(out, style.has_colours, NAME, name.as_bytes())?;
-            push_painted(out, style.has_colours, SEPARATOR, separator.as_bytes())
-        }
-        None => Ok(()),
+    let Some(name) = style.name else {
+        return Ok(());
+    };
+    push_painted(out, style.has_colours, NAME, name.as_bytes())?;
+    if style.has_zeros {
+        return out.extend_from_slice(b"\0");
     }
+    push_painted(out, style.has_colours, SEPARATOR, separator.as_bytes())
 }
 
-/// Writes the number of a line and what separates it from the rest, where lines begin with it.
+/// Writes a number, if there is one, and what separates it from the rest.
 fn push_number(
     out: &mut Vec<u8>,
-    style: Style<'_>,
-    number: usize,
+    has_colours: bool,
+    number: Option<usize>,
     separator: &str,
 ) -> Result<(), AllocError>
     ensures { OnOk result (out.new.items
-        ≡ out.old.items ++ number_part style.entry number separator.now) }
+        ≡ out.old.items ++ number_part has_colours number separator.now) }
 {
-    if !style.has_numbers {
+    let Some(number) = number else {
         return Ok(());
-    }
+    };
     let digits = number.to_string(*out.allocator())?;
-    push_painted(out, style.has_colours, NUMBER, digits.as_bytes())?;
-    push_painted(out, style.has_colours, SEPARATOR, separator.as_bytes())
+    push_painted(out, has_colours, NUMBER, digits.as_bytes())?;
+    push_painted(out, has_colours, SEPARATOR, separator.as_bytes())
 }
 
 /// Writes what stands before a line.
 pub fn push_prefix(
     out: &mut Vec<u8>,
     style: Style<'_>,
-    number: usize,
+    place: Place,
     separator: &str,
 ) -> Result<(), AllocError>
     ensures { OnOk result (out.new.items
-        ≡ out.old.items ++ prefix style.entry number separator.now) }
+        ≡ out.old.items ++ prefix style.entry place separator.now) }
 {
     push_name(out, style, separator)?;
-    push_number(out, style, number, separator)
+    push_number(out, style.has_colours, place.number, separator)?;
+    push_number(out, style.has_colours, place.column, separator)?;
+    push_number(out, style.has_colours, place.offset, separator)
 }

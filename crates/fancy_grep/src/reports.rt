@@ -9,7 +9,7 @@ use crate::lines::Line;
 use crate::matching::{Cause, Failure, MatchingLines, matching_lines};
 use crate::output::Output;
 use crate::patterns::Matcher;
-use crate::printing::{MATCH, NAME, SEPARATOR, Style, push_name, push_painted, push_prefix};
+use crate::printing::{MATCH, NAME, Place, SEPARATOR, Style, push_name, push_painted, push_prefix};
 use crate::settings::{Report, Settings};
 use fancy_input::pieces::bytes_read_as;
 use fancy_regex::{Error, Regex};
@@ -23,6 +23,8 @@ pub struct Part<'t> {
     pub text: &'t str,
     /// What is in the file, with the line ends.
     pub bytes: &'t [u8],
+    /// Where they begin in the file.
+    pub start: usize,
     /// They are one line, and its text is not what is in the file.
     pub is_broken: bool,
 }
@@ -51,7 +53,7 @@ impl<'t> Part<'t> {
     /// The first `count` of these lines, and the others.
     fn split(self, count: usize) -> (Part<'t>, Part<'t>) {
         if count == 0 {
-            return (Part::of_text(""), self);
+            return (Part::of_text("", self.start), self);
         }
         let place = self
             .text
@@ -59,16 +61,18 @@ impl<'t> Part<'t> {
             .saturating_sub(skip_lines(self.text.as_bytes(), count).len());
         let (first, rest) = match self.text.split_at_checked(place) {
             Some(both) if !self.is_broken => both,
-            _ => return (self, Part::of_text("")),
+            _ => return (self, Part::of_text("", self.start)),
         };
-        (Part::of_text(first), Part::of_text(rest))
+        let next = self.start.saturating_add(place);
+        (Part::of_text(first, self.start), Part::of_text(rest, next))
     }
 
     /// Lines that are a text.
-    pub fn of_text(text: &'t str) -> Part<'t> {
+    pub fn of_text(text: &'t str, start: usize) -> Part<'t> {
         Part {
             text,
             bytes: text.as_bytes(),
+            start,
             is_broken: false,
         }
     }
@@ -80,6 +84,7 @@ impl<'t> Part<'t> {
             bytes: self.bytes_of(line),
             is_broken: self.is_broken,
             start: 0,
+            passed: 0,
         }
     }
 }
@@ -92,6 +97,8 @@ struct Rest<'t> {
     is_broken: bool,
     /// Where it begins in the text of the line.
     start: usize,
+    /// Where it begins in the line as it is in the file.
+    passed: usize,
 }
 
 impl<'t> Rest<'t> {
@@ -112,6 +119,7 @@ impl<'t> Rest<'t> {
         self.text = rest;
         self.bytes = left;
         self.start = self.start.saturating_add(text.len());
+        self.passed = self.passed.saturating_add(bytes.len());
         bytes
     }
 }
@@ -124,6 +132,8 @@ pub struct Search<'s> {
     name: &'s str,
     /// No line of a file before it was selected.
     is_first: bool,
+    /// How many bytes of it were read.
+    read: usize,
     /// How many lines were searched.
     passed: usize,
     /// How many of them are selected.
@@ -144,6 +154,7 @@ impl<'s> Search<'s> {
             settings,
             name,
             is_first,
+            read: 0,
             passed: 0,
             selected: 0,
             around: Around::new(alloc),
@@ -163,11 +174,19 @@ impl<'s> Search<'s> {
         let report = self.settings.report;
         (report.is_decided_by_line() && self.is_selected())
             || (report.has_lines() && self.is_untold)
+            || (self.left() == 0 && self.around.owed == 0)
+    }
+
+    /// How many more lines may be selected.
+    fn left(&self) -> usize {
+        let most = self.settings.most.unwrap_or(usize::MAX);
+        most.saturating_sub(self.selected)
     }
 
     /// Notes that these bytes of the file were read: its lines may take more, and with a zero it is a binary file, unless it
     /// is searched as a text.
     pub fn read(&mut self, bytes: &[u8]) {
+        self.read = self.read.saturating_add(bytes.len());
         self.budget.allow(bytes.len());
         self.is_binary = self.is_binary || (!self.settings.is_text && memchr(0, bytes).is_some());
     }
@@ -177,15 +196,30 @@ impl<'s> Search<'s> {
         self.passed.saturating_add(1)
     }
 
-    /// Passes over a line.
+    /// Where the last `left` bytes that were read begin in the file.
+    pub fn place(&self, left: &[u8]) -> usize {
+        self.read.saturating_sub(left.len())
+    }
+
+    /// Passes over a line that does not fit the memory.
     pub fn skip_line(&mut self) {
         self.passed = self.passed.saturating_add(1);
+        self.around.skip();
+    }
+
+    /// Whether what follows a line of an unknown length can be searched.
+    pub fn can_skip(&self) -> bool {
+        !self.settings.has_offsets
     }
 
     fn style(&self) -> Style<'s> {
         Style {
-            name: self.settings.has_names.then_some(self.name),
-            has_numbers: self.settings.has_numbers,
+            name: self
+                .settings
+                .has_names
+                .unwrap_or(false)
+                .then_some(self.name),
+            has_zeros: self.settings.has_zeros,
             has_colours: self.settings.has_colours,
         }
     }
@@ -204,6 +238,7 @@ impl<'s> Search<'s> {
             matcher.required.as_ref(),
             part.text,
             self.settings.inverted,
+            self.left(),
             &mut self.budget,
         );
         let Some(failure) = failure else {
@@ -231,11 +266,11 @@ impl<'s> Search<'s> {
     {
         let Err(failure) = self.push(out, regex, first, lines) else {
             let passed = self.pass(first, lines);
-            return self.failed(passed.err()?, Part::of_text(""));
+            return self.failed(passed.err()?, Part::of_text("", part.start));
         };
         let number = failure.number;
         let (done, rest) = if number == 0 {
-            (first, Part::of_text(""))
+            (first, Part::of_text("", part.start))
         } else {
             part.split(number)
         };
@@ -307,6 +342,9 @@ impl<'s> Search<'s> {
             }
             report if report.has_name(self.is_selected()) => {
                 push_painted(&mut out.kept, style.has_colours, NAME, self.name.as_bytes())?;
+                if style.has_zeros {
+                    return out.push(b"\0");
+                }
                 out.end_line()
             }
             _ => Ok(()),
@@ -435,7 +473,8 @@ impl<'p> Page<'p> {
         let mut number = start;
         'lines: for _ in 0..bytes.len() {
             let Some(at) = memchr(b'\n', rest) else { break };
-            self.push_near(out, number, rest.get(..at).unwrap_or(&[]))?;
+            let offset = self.part.start.saturating_sub(rest.len());
+            self.push_near(out, number, offset, rest.get(..at).unwrap_or(&[]))?;
             rest = rest.get(at.saturating_add(1)..).unwrap_or(&[]);
             number = number.saturating_add(1);
         }
@@ -473,16 +512,64 @@ impl<'p> Page<'p> {
             return self.push_line(out, regex, shown.line);
         }
         let number = self.passed.saturating_add(shown.line.number);
-        self.push_near(out, number, self.part.bytes_of(shown.line))?;
+        let offset = self.part.start.saturating_add(shown.line.start);
+        self.push_near(out, number, offset, self.part.bytes_of(shown.line))?;
         Ok(())
     }
 
+    /// Where the line with this number of the file is, or what is this far from its start, as it is written.
+    fn place(&self, number: usize, column: Option<usize>, offset: usize) -> Place {
+        Place {
+            number: self.settings.has_numbers.then_some(number),
+            column,
+            offset: self.settings.has_offsets.then_some(offset),
+        }
+    }
+
+    /// Where what is this far from the start of a line is, as it is written.
+    fn place_in(&self, line: Line<'p>, at: usize) -> Place {
+        let start = self.part.start.saturating_add(line.start);
+        self.place(
+            self.passed.saturating_add(line.number),
+            self.settings.has_columns.then_some(at.saturating_add(1)),
+            start.saturating_add(at),
+        )
+    }
+
+    /// Where a selected line is, as it is written, with the place of its first match.
+    fn place_of(&self, regex: &mut Regex, line: Line<'p>) -> Result<Place, Error> {
+        let place = Place {
+            column: None,
+            ..self.place_in(line, 0)
+        };
+        if !self.settings.has_columns || self.settings.inverted {
+            return Ok(place);
+        }
+        Ok(match regex.find(line.text)? {
+            Some(found) => {
+                let before = self.part.rest_of(line).take_to(found.start());
+                Place {
+                    column: Some(before.len().saturating_add(1)),
+                    ..place
+                }
+            }
+            None => place,
+        })
+    }
+
     /// Writes a line that is not selected, unless matches alone are asked for.
-    fn push_near(&self, out: &mut Output, number: usize, bytes: &[u8]) -> Result<(), AllocError> {
+    fn push_near(
+        &self,
+        out: &mut Output,
+        number: usize,
+        offset: usize,
+        bytes: &[u8],
+    ) -> Result<(), AllocError> {
         if matches!(self.settings.report, Report::Matches) {
             return Ok(());
         }
-        push_prefix(&mut out.kept, self.style, number, "-")?;
+        let place = self.place(number, None, offset);
+        push_prefix(&mut out.kept, self.style, place, "-")?;
         out.push(bytes)?;
         out.end_line()
     }
@@ -502,8 +589,8 @@ impl<'p> Page<'p> {
         regex: &mut Regex,
         line: Line<'p>,
     ) -> Result<(), Error> {
-        let number = self.passed.saturating_add(line.number);
-        push_prefix(&mut out.kept, self.style, number, ":")?;
+        let place = self.place_of(regex, line)?;
+        push_prefix(&mut out.kept, self.style, place, ":")?;
         match self.settings.template {
             Some(template) => self.push_replaced(out, regex, line, template)?,
             None if self.settings.has_colours && !self.settings.inverted => {
@@ -575,7 +662,8 @@ impl<'p> Page<'p> {
         for found in regex.find_iter(line.text) {
             let found = found?;
             rest.take_to(found.start());
-            self.push_part(out, line.number, rest.take_to(found.end()))?;
+            let place = self.place_in(line, rest.passed);
+            self.push_part(out, place, rest.take_to(found.end()))?;
         }
         Ok(())
     }
@@ -587,25 +675,23 @@ impl<'p> Page<'p> {
         line: Line<'p>,
         template: &str,
     ) -> Result<(), Error> {
+        let mut rest = self.part.rest_of(line);
         for captures in regex.captures_iter(line.text) {
+            let captures = captures?;
+            rest.take_to(captures.get_match().start());
             let mut part = String::new(self.alloc);
-            captures?.expand(template, &mut part)?;
-            self.push_part(out, line.number, part.as_bytes())?;
+            captures.expand(template, &mut part)?;
+            self.push_part(out, self.place_in(line, rest.passed), part.as_bytes())?;
         }
         Ok(())
     }
 
     /// Writes what is not empty on a line of its own, with what is before a line.
-    fn push_part(&self, out: &mut Output, number: usize, part: &[u8]) -> Result<(), AllocError> {
+    fn push_part(&self, out: &mut Output, place: Place, part: &[u8]) -> Result<(), AllocError> {
         if part.is_empty() {
             return Ok(());
         }
-        push_prefix(
-            &mut out.kept,
-            self.style,
-            self.passed.saturating_add(number),
-            ":",
-        )?;
+        push_prefix(&mut out.kept, self.style, place, ":")?;
         push_painted(&mut out.kept, self.style.has_colours, MATCH, part)?;
         out.end_line()
     }

@@ -59,15 +59,25 @@ pub struct Settings<'a> {
     pub report: Report,
     /// Lines without a match are selected.
     pub inverted: bool,
+    /// At most so many lines of a text are selected.
+    pub most: Option<usize>,
     /// Each line begins with its number.
     pub has_numbers: bool,
-    /// Each line begins with the name of its text.
-    pub has_names: bool,
+    /// Each selected line begins with the byte of its first match, from 1.
+    pub has_columns: bool,
+    /// Each line begins with the byte of its text, from 0, at which it or its match starts.
+    pub has_offsets: bool,
+    /// Each line begins with the name of its text; if not said, in folders.
+    pub has_names: Option<bool>,
+    /// A zero byte is after each name.
+    pub has_zeros: bool,
     pub has_colours: bool,
     /// A text with a zero byte is written as any other.
     pub is_text: bool,
     /// What cannot be read is not reported.
     pub is_silent: bool,
+    /// Each line is written at once.
+    pub is_line_buffered: bool,
     /// How many lines around the selected ones are written too.
     pub context: Option<Context>,
     /// What is written for each match, with references to groups.

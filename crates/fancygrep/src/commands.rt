@@ -10,251 +10,118 @@ const AFTER: &str =
 working folder; - is standard input too. --batch FILE, alone, runs each line of a \
 file as a command line, in which ' quotes. Status 0: a line is selected; 1: none is; 2: something failed.";
 
-/// What is written for an option.
-#[derive(Clone, Copy)]
-enum Kind {
-    Flag,
-    Number,
-    Bytes,
-    Text,
-    /// A text after `=`, or nothing.
-    When,
-}
+/// Each option: its name, with another one after `/`; its letter, or `-`; what is written after it, or `-`; and what it says.
+/// An option whose word ends in `..` counts each time that it is given.
+const OPTIONS: &str = "\
+regexp e PATTERN.. Search for PATTERN; given several times, for any of them
+file f FILE.. Search for each line of FILE too
+fixed-strings F - PATTERN is a text, and no pattern; each of its lines is one
+extended-regexp E - Read PATTERN as it is read without this option
+basic-regexp G - Read PATTERN as it is read without this option
+perl-regexp P - Read PATTERN as it is read without this option
+ignore-case i - Letters match in either case
+smart-case S - As -i, unless a pattern has a capital letter that is not after a backslash
+word-regexp w - No word character is before or after a match
+line-regexp x - A match is the whole line
+longest - - Find the longest match at the earliest start
+invert-match v - Select the lines without a match
+max-count m N Select at most N lines of a file
+count c - Write how many lines are selected
+files-with-matches l - Write the names of files with a selected line
+files-without-match L - Write the names of files without a selected line
+quiet/silent q - Write nothing, and end at the first selected line
+no-messages s - Report no files that cannot be read
+text a - Search binary files as texts
+only-matching o - Write each match on a line of its own
+line-number n - Write the numbers of lines
+column - - Write at which byte of a line, from 1, its first match starts
+byte-offset b - Write at which byte of the file, from 0, a line, or under -o a match, starts
+with-filename H - Write the names of files before lines
+no-filename h - Write no names of files before lines
+null Z - Write a zero byte after the name of a file
+after-context A N Write N lines after each
+before-context B N Write N lines before each
+context C N Write N lines before and after each
+replace - TEMPLATE Write this for each match: $1 is its group 1, $0 all of it, $$ a dollar sign
+color/colour - [WHEN] Write in colours: always, never or auto, which is if standard output is a terminal
+line-buffered - - Write each line as soon as it is selected
+recursive r - Search folders, but for hidden files
+backtracks - N Backtrack N times in a line at most [default: 20000000, and 1 for each byte]
+steps - N Execute N instructions for a line at most [default: 100000000, and 8 for each byte]
+visits - N Visit N states of easy parts of the pattern in a line at most [default: 20000000]
+memory - BYTES Keep BYTES for a search at most [default: 268435456]
+max-prog - N Compile PATTERN to N instructions at most [default: 1000000]
+analysis-limit - N Look at N nodes in the analysis of PATTERN at most [default: 5000000]";
 
-/// Each option: its name, its letter if it has one, what is written, and what it says.
-static OPTIONS: [(&str, Option<char>, Kind, &str); 28] = [
-    (
-        "fixed-strings",
-        Some('F'),
-        Kind::Flag,
-        "PATTERN is a text, and no pattern",
-    ),
-    (
-        "ignore-case",
-        Some('i'),
-        Kind::Flag,
-        "Letters match in either case",
-    ),
-    (
-        "word-regexp",
-        Some('w'),
-        Kind::Flag,
-        "No word character is before or after a match",
-    ),
-    (
-        "line-regexp",
-        Some('x'),
-        Kind::Flag,
-        "A match is the whole line",
-    ),
-    (
-        "longest",
-        None,
-        Kind::Flag,
-        "Find the longest match at the earliest start",
-    ),
-    (
-        "invert-match",
-        Some('v'),
-        Kind::Flag,
-        "Select the lines without a match",
-    ),
-    (
-        "count",
-        Some('c'),
-        Kind::Flag,
-        "Write how many lines are selected",
-    ),
-    (
-        "files-with-matches",
-        Some('l'),
-        Kind::Flag,
-        "Write the names of files with a selected line",
-    ),
-    (
-        "files-without-match",
-        Some('L'),
-        Kind::Flag,
-        "Write the names of files without a selected line",
-    ),
-    (
-        "quiet",
-        Some('q'),
-        Kind::Flag,
-        "Write nothing, and end at the first selected line",
-    ),
-    (
-        "no-messages",
-        Some('s'),
-        Kind::Flag,
-        "Report no files that cannot be read",
-    ),
-    (
-        "text",
-        Some('a'),
-        Kind::Flag,
-        "Search binary files as texts",
-    ),
-    (
-        "perl-regexp",
-        Some('P'),
-        Kind::Flag,
-        "Read PATTERN as it is read without this option",
-    ),
-    (
-        "only-matching",
-        Some('o'),
-        Kind::Flag,
-        "Write each match on a line of its own",
-    ),
-    (
-        "line-number",
-        Some('n'),
-        Kind::Flag,
-        "Write the numbers of lines",
-    ),
-    (
-        "with-filename",
-        Some('H'),
-        Kind::Flag,
-        "Write the names of files before lines",
-    ),
-    (
-        "after-context",
-        Some('A'),
-        Kind::Number,
-        "Write N lines after each",
-    ),
-    (
-        "before-context",
-        Some('B'),
-        Kind::Number,
-        "Write N lines before each",
-    ),
-    (
-        "context",
-        Some('C'),
-        Kind::Number,
-        "Write N lines before and after each",
-    ),
-    (
-        "replace",
-        None,
-        Kind::Text,
-        "Write this for each match: $1 is its group 1, $0 all of it, $$ a dollar sign",
-    ),
-    (
-        "color",
-        None,
-        Kind::When,
-        "Write in colours: always, never or auto, which is if standard output is a terminal",
-    ),
-    (
-        "recursive",
-        Some('r'),
-        Kind::Flag,
-        "Search folders, but for hidden files",
-    ),
-    (
-        "backtracks",
-        None,
-        Kind::Number,
-        "Backtrack N times in a line at most [default: 20000000, and 1 for each byte]",
-    ),
-    (
-        "steps",
-        None,
-        Kind::Number,
-        "Execute N instructions for a line at most [default: 100000000, and 8 for each byte]",
-    ),
-    (
-        "visits",
-        None,
-        Kind::Number,
-        "Visit N states of easy parts of the pattern in a line at most [default: 20000000]",
-    ),
-    (
-        "memory",
-        None,
-        Kind::Bytes,
-        "Keep BYTES for a search at most [default: 268435456]",
-    ),
-    (
-        "max-prog",
-        None,
-        Kind::Number,
-        "Compile PATTERN to N instructions at most [default: 1000000]",
-    ),
-    (
-        "analysis-limit",
-        None,
-        Kind::Number,
-        "Look at N nodes in the analysis of PATTERN at most [default: 5000000]",
-    ),
-];
-
-/// The option that does not count before this one.
-fn rival(name: &str) -> Option<&'static str> {
-    if name == "files-with-matches" {
-        Some("files-without-match")
-    } else if name == "files-without-match" {
-        Some("files-with-matches")
-    } else {
-        None
+/// The option that does not count before this one: of those that are given twice, the last one counts.
+fn rival(name: &str) -> &str {
+    match name {
+        "files-with-matches" => "files-without-match",
+        "files-without-match" => "files-with-matches",
+        "with-filename" => "no-filename",
+        "no-filename" => "with-filename",
+        _ => name,
     }
 }
 
-fn argument<'a>(
-    alloc: Global,
-    name: &'a str,
-    letter: Option<char>,
-    kind: Kind,
-    help: &'a str,
-) -> Result<Arg<'a>, AllocError> {
-    // Of options that exclude each other, and of one that is given twice, the last one counts.
-    let mut long = Arg::new(alloc, name)
+/// The option of a line of the table.
+fn argument<'a>(alloc: Global, line: &'a str) -> Result<Arg<'a>, AllocError> {
+    let mut words = line.splitn(4, ' ');
+    let names = words.next().unwrap_or("");
+    let letter = words.next().unwrap_or("");
+    let value = words.next().unwrap_or("");
+    let (name, other) = names.split_once('/').unwrap_or((names, names));
+    let mut option = Arg::new(alloc, name)
         .long(name)
-        .help(help)
-        .overrides_with(name)?;
-    if let Some(rival) = rival(name) {
-        long = long.overrides_with(rival)?;
+        .help(words.next().unwrap_or(""));
+    if other.len() != names.len() {
+        option = option.alias(other)?;
     }
-    let word = match letter {
-        Some(letter) => long.short(letter),
-        None => long,
-    };
-    Ok(match kind {
-        Kind::Flag => word.action(ArgAction::SetTrue),
-        Kind::Number => word.value_name("N").value_parser(value_parser!(u64)),
-        Kind::Bytes => word.value_name("BYTES").value_parser(value_parser!(u64)),
-        Kind::Text => word.value_name("TEMPLATE").allow_hyphen_values(true),
-        Kind::When => word
+    if letter != "-" {
+        option = option.short(letter.chars().next().unwrap_or('-'));
+    }
+    if let Some(word) = value.strip_suffix("..") {
+        let option = option.value_name(word).action(ArgAction::Append);
+        return Ok(option.allow_hyphen_values(true));
+    }
+    let option = option.overrides_with(name)?.overrides_with(rival(name))?;
+    Ok(match value {
+        "-" => option.action(ArgAction::SetTrue),
+        "N" | "BYTES" => option.value_name(value).value_parser(value_parser!(u64)),
+        "[WHEN]" => option
             .value_name("WHEN")
             .num_args(0..=1)
             .require_equals(true)
             .default_missing_value("auto"),
+        _ => option.value_name(value).allow_hyphen_values(true),
     })
 }
 
 /// The whole command.
 pub fn command<'a>(alloc: Global) -> Result<Command<'a>, AllocError> {
     let pattern = Arg::new(alloc, "PATTERN")
-        .required(true)
-        .help("The pattern");
+        .required_unless_present("regexp")?
+        .required_unless_present("file")?
+        .help("The pattern, unless -e or -f gives one: then a file");
     let files = Arg::new(alloc, "FILE")
         .num_args(0..)
         .action(ArgAction::Append)
         .help("The files");
+    let help = Arg::new(alloc, "help")
+        .long("help")
+        .action(ArgAction::Help)
+        .help("Print help");
     let mut command = Command::new(alloc, "fancygrep")
         .about(ABOUT)
         .version("0.4.0")
         .after_help(AFTER)
         .bin_name("fancygrep")?
         .no_binary_name(true)
+        .disable_help_flag(true)
         .arg(pattern)?
         .arg(files)?;
-    for (name, letter, kind, help) in &OPTIONS {
-        command = command.arg(argument(alloc, name, *letter, *kind, help)?)?;
+    for line in OPTIONS.lines() {
+        command = command.arg(argument(alloc, line)?)?;
     }
-    Ok(command)
+    command.arg(help)
 }

@@ -5,11 +5,12 @@ use crate::commands::command;
 use clap::{ArgMatches, Error};
 use fancy_grep::context::Context;
 use fancy_grep::files::search;
+use fancy_grep::lines::Lines;
 use fancy_grep::patterns::{Extent, Limits, PatternOptions};
 use fancy_grep::settings::{Report, Settings};
 use std::alloc::{AllocError, Global};
-use std::env;
 use std::io::{IsTerminal, Write};
+use std::{env, fs, io};
 
 /// Whether colours are asked for. By themselves they are for a terminal whose user has not set `NO_COLOR`.
 fn has_colours(rt: &HostRuntime, when: Option<&str>) -> bool {
@@ -43,10 +44,24 @@ fn limits(matches: &ArgMatches<'_>) -> Limits {
     }
 }
 
-fn pattern(matches: &ArgMatches<'_>) -> PatternOptions {
+/// Whether a pattern has a capital that is not after a backslash.
+fn has_capital(pattern: &str) -> bool {
+    let mut is_escaped = false;
+    for c in pattern.chars() {
+        if c.is_uppercase() && !is_escaped {
+            return true;
+        }
+        is_escaped = c == '\\' && !is_escaped;
+    }
+    false
+}
+
+fn options_of(matches: &ArgMatches<'_>, patterns: &[String]) -> PatternOptions {
+    let is_smart = matches.get_flag("smart-case")
+        && !patterns.iter().any(|pattern| has_capital(pattern.as_str()));
     PatternOptions {
         is_text: matches.get_flag("fixed-strings"),
-        case_insensitive: matches.get_flag("ignore-case"),
+        case_insensitive: matches.get_flag("ignore-case") || is_smart,
         longest: matches.get_flag("longest"),
         extent: extent(matches),
         limits: limits(matches),
@@ -83,14 +98,66 @@ fn context(matches: &ArgMatches<'_>) -> Option<Context> {
     })
 }
 
+/// Whether patterns are given by options, so that the first word is a file.
+fn has_patterns(matches: &ArgMatches<'_>) -> bool {
+    matches.contains_id("regexp") || matches.contains_id("file")
+}
+
+/// Adds a pattern, or each line of it as a text.
+fn add_pattern(patterns: &mut Vec<String>, pattern: &str, is_text: bool) -> Result<(), AllocError> {
+    let alloc = *patterns.allocator();
+    if !is_text {
+        patterns.push(String::from_str(alloc, pattern)?)?;
+        return Ok(());
+    }
+    for line in pattern.split('\n') {
+        patterns.push(String::from_str(alloc, line)?)?;
+    }
+    Ok(())
+}
+
+/// Adds each line of a file, or of standard input if its path is `-`.
+fn add_lines(rt: &HostRuntime, patterns: &mut Vec<String>, path: &str) -> io::Result<()> {
+    let text = if path == "-" {
+        io::read_to_string(rt.alloc(), rt.stdin())?
+    } else {
+        fs::read_to_string(rt, path)?
+    };
+    for line in Lines::new(text.as_str()) {
+        patterns.push(String::from_str(rt.alloc(), line.text)?)?;
+    }
+    Ok(())
+}
+
+/// The patterns. There are none if a file of them cannot be read, which is reported.
+fn patterns(rt: &HostRuntime, matches: &ArgMatches<'_>) -> Result<Option<Vec<String>>, AllocError> {
+    let is_text = matches.get_flag("fixed-strings");
+    let mut patterns = Vec::new(rt.alloc());
+    if !has_patterns(matches) {
+        let pattern = matches.get_str("PATTERN").unwrap_or("");
+        add_pattern(&mut patterns, pattern, is_text)?;
+    }
+    for pattern in matches.get_strs("regexp").unwrap_or(&[]) {
+        add_pattern(&mut patterns, pattern, is_text)?;
+    }
+    for path in matches.get_strs("file").unwrap_or(&[]) {
+        if let Err(error) = add_lines(rt, &mut patterns, path) {
+            let _unwritten = eprintln!(rt; "fancygrep: {path}: {error}");
+            return Ok(None);
+        }
+    }
+    Ok(Some(patterns))
+}
+
 /// The files that are named; where none is, standard input or the working folder.
 fn paths<'a>(alloc: Global, matches: &ArgMatches<'a>) -> Result<Vec<&'a str>, AllocError> {
     let mut paths = Vec::new(alloc);
-    if let Some(names) = matches.get_strs("FILE") {
-        for name in names {
-            paths.push(*name)?;
+    if has_patterns(matches) {
+        if let Some(path) = matches.get_str("PATTERN") {
+            paths.push(path)?;
         }
     }
+    paths.extend_from_slice(matches.get_strs("FILE").unwrap_or(&[]))?;
     if paths.is_empty() {
         paths.push(if matches.get_flag("recursive") {
             "."
@@ -101,25 +168,42 @@ fn paths<'a>(alloc: Global, matches: &ArgMatches<'a>) -> Result<Vec<&'a str>, Al
     Ok(paths)
 }
 
+/// Whether lines begin with the names of their files, if that does not depend on whether a folder is searched.
+fn has_names(matches: &ArgMatches<'_>, paths: &[&str]) -> Option<bool> {
+    if matches.get_flag("no-filename") {
+        Some(false)
+    } else if paths.len() > 1 || matches.get_flag("with-filename") {
+        Some(true)
+    } else {
+        None
+    }
+}
+
 /// Searches as the words ask, and returns the status.
 fn search_by(rt: &HostRuntime, matches: &ArgMatches<'_>) -> Result<u8, AllocError> {
+    let Some(patterns) = patterns(rt, matches)? else {
+        return Ok(2);
+    };
     let paths = paths(rt.alloc(), matches)?;
-    let is_recursive = matches.get_flag("recursive");
     let settings = Settings {
-        pattern: pattern(matches),
-        is_recursive,
+        pattern: options_of(matches, &patterns),
+        is_recursive: matches.get_flag("recursive"),
         report: report_of(matches),
         inverted: matches.get_flag("invert-match"),
+        most: matches.get_one::<usize>("max-count"),
         has_numbers: matches.get_flag("line-number"),
-        has_names: paths.len() > 1 || matches.get_flag("with-filename"),
+        has_columns: matches.get_flag("column"),
+        has_offsets: matches.get_flag("byte-offset"),
+        has_names: has_names(matches, &paths),
+        has_zeros: matches.get_flag("null"),
         has_colours: has_colours(rt, matches.get_str("color")),
         is_text: matches.get_flag("text"),
         is_silent: matches.get_flag("no-messages"),
+        is_line_buffered: matches.get_flag("line-buffered"),
         context: context(matches),
         template: matches.get_str("replace"),
     };
-    let pattern = matches.get_str("PATTERN").unwrap_or("");
-    Ok(search(rt, pattern, &settings, &paths))
+    Ok(search(rt, &patterns, &settings, &paths))
 }
 
 /// Writes the help that is asked for, or what is wrong with the words, and returns the status: 3 if the help cannot be
