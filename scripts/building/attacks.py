@@ -94,7 +94,13 @@ FAMILIES = {
 }
 
 
+def with_all(pattern, text):
+    """The text with each letter and digit of the pattern behind it, since a missing one ends a search at once."""
+    end = " " + "".join(sorted({it for it in pattern if it.isalnum()}))
+    return text.encode()[:MOST_TEXT - len(end.encode())].decode(errors="ignore") + end
+
+
 def pairs():
     """Each pattern of a family with each of its texts."""
     for family, (patterns, texts) in FAMILIES.items():
-        yield from (Pair(family, pattern, text) for pattern in patterns for text in texts)
+        yield from (Pair(family, pattern, with_all(pattern, text)) for pattern in patterns for text in texts)
