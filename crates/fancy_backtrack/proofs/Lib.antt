@@ -1,7 +1,5 @@
 pub mod PathLaws
-pub mod PairBitLaws
 pub mod PairNumberLaws
-pub mod SparseLaws
 pub mod PairKeys
 pub mod FailedLaws
 pub mod BacktrackStackLaws

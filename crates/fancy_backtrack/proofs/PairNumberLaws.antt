@@ -4,8 +4,11 @@ use Rattle.std.proofs.lemmas.Bool.{and_parts, ltb-true, leb-true}
 use Rattle.std.proofs.lemmas.Nat.{same_from_place}
 use Rattle.regex_hir.proofs.AttemptLemmas.{option_and_then_some}
 use Rattle.fancy_backtrack.specs.declared.pair_numbers.PairNumbers.{PairNumbers}
-use Rattle.fancy_backtrack.specs.PairNumbers.{counter_digit, counters_value, pair_value, in_word, shifted}
-use Rattle.fancy_backtrack.proofs.PairBitLaws.{if_some}
+use Rattle.fancy_backtrack.specs.PairNumbers.{counter_digit, counters_value, pair_value, shifted}
+
+if_some : {A : Type 0} (b : Bool) (x y : A) → (if b then Some x else None) ≡ Some y → (b ≡ true) × (x ≡ y)
+if_some true x y h = (refl, cc)
+if_some false x y h = cc
 
 if_then : {A : Type 0} (b : Bool) (o : Option A) (y : A) → (if b then o else None) ≡ Some y → (b ≡ true) × (o ≡ Some y)
 if_then true o y h = (refl, h)

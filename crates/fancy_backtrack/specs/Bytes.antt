@@ -2,7 +2,6 @@
 use Rattle.std.specs.Prelude.{◌+◌, ◌*◌, ◌^◌, ◌-◌, ℕ, min, length}
 use Rattle.fancy_backtrack.specs.declared.backtrack_stack.BacktrackStack.{BacktrackStack}
 use Rattle.fancy_backtrack.specs.declared.trail.Trail.{Trail}
-use Rattle.fancy_backtrack.specs.declared.sparse_pairs.SparsePairs.{SparsePairs}
 use Rattle.fancy_backtrack.specs.declared.failed.Failed.{Failed}
 use Rattle.fancy_backtrack.specs.declared.memo.Memo.{Memo}
 
@@ -18,12 +17,8 @@ abbrev pub trail_bytes : Trail → ℕ
 trail_bytes t = 40 * length t.entries.items
 
 -- each hashed word, and the lists
-abbrev pub sparse_bytes : SparsePairs → ℕ
-sparse_bytes s = 16 * length s.words.entries + s.list_bytes
-
--- the words of bits that there are, or as many as were refused, and the other pairs
 abbrev pub failed_bytes : Failed → ℕ
-failed_bytes f = 8 * f.wanted + sparse_bytes f.sparse
+failed_bytes f = 16 * length f.words.entries + f.list_bytes
 
 abbrev pub bytes_of : Memo → ℕ
 bytes_of m = saturated (stack_bytes m.frames + trail_bytes m.trail + failed_bytes m.failed)

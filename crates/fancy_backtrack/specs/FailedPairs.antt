@@ -1,19 +1,32 @@
 -- Which pairs the code has memoized.
-use Rattle.std.specs.Prelude.{ℕ, ◌/◌, ◌%◌, Bool, List, Option, Some, None, ◌==◌, slice_index}
+use Rattle.std.specs.Prelude.{ℕ, ◌/◌, ◌%◌, Bool, List, Option, Some, None, ◌==◌, nat_eq}
 use Rattle.std.specs.Int.{bit_at}
+use Rattle.std.specs.HashMap.{HashMap, get}
+use Rattle.std.specs.HashSet.{contains_by}
+use Rattle.std.specs.declared.hash.FoldHasher.{FoldHasher}
+use Rattle.std.specs.declared.hash.BuildHasherDefault.{BuildHasherDefault}
+use Rattle.fancy_backtrack.specs.PairKeys.{same_numbers}
+use Rattle.fancy_backtrack.specs.PairNumbers.{pair_value}
 use Rattle.fancy_backtrack.specs.declared.failed.Failed.{Failed}
-use Rattle.fancy_backtrack.specs.PairBits.{pair_bit}
-use Rattle.fancy_backtrack.specs.SparsePairs.{has_sparse}
 
--- bit n of the words, counted from the lowest bit of the first
-abbrev pub bit_is_set : List ℕ → ℕ → Bool
-bit_is_set words n = bit_at (slice_index words (n / 64)) (n % 64) == 1
+-- words by their index
+abbrev pub Words : Type 0
+Words = HashMap ℕ ℕ (BuildHasherDefault FoldHasher)
 
--- by its bit, or else in the sparse set
+-- a word, which has no bits where there is none
+abbrev pub word_of : Option ℕ → ℕ
+word_of None = 0
+word_of (Some word) = word
+
+-- bit n of the words, counted from the lowest bit of the word at 0
+abbrev pub number_is_set : Words → ℕ → Bool
+number_is_set words n = bit_at (word_of (get nat_eq words (n / 64))) (n % 64) == 1
+
+-- by its number, or else by its list
 abbrev pub is_memoized : Option ℕ → Failed → List ℕ → Bool
-is_memoized None f k = has_sparse f.sparse k
-is_memoized (Some bit) f k = bit_is_set f.bits.items bit
+is_memoized None s k = contains_by (λ v. same_numbers k v.items) s.lists
+is_memoized (Some n) s k = number_is_set s.words n
 
 -- a pair with these numbers was memoized
 unfoldable pub has_pair : Failed → List ℕ → Bool
-has_pair f k = is_memoized (pair_bit f.pair_bits f.base k) f k
+has_pair s k = is_memoized (pair_value s.numbers s.base k) s k

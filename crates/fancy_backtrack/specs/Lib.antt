@@ -1,8 +1,6 @@
 pub mod Paths
-pub mod PairBits
 pub mod PairNumbers
 pub mod PairKeys
-pub mod SparsePairs
 pub mod FailedPairs
 pub mod BacktrackStack
 pub mod Loops

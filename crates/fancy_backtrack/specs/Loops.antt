@@ -1,5 +1,5 @@
 -- Loops whose iterations are counted, and which ways on the definition finds at the head of one.
-use Rattle.std.specs.Prelude.{◌≡◌, ℕ, true, false, List, [], ◌∷◌, None, nat_lt}
+use Rattle.std.specs.Prelude.{◌≡◌, ℕ, true, false, nat_lt}
 use Rattle.fancy_nfa_laws.specs.NfaStates as states
 use Rattle.fancy_nfa_laws.specs.NfaSearch as plain
 use Rattle.fancy_nfa_laws.specs.NfaSearch.{LoopCounter}
@@ -19,9 +19,3 @@ ChoosesBy loop_choice.InOrOut l place t =
     (plain.is_over l place t ≡ false) × (nat_lt t.count l.lo ≡ false) × (l.greedy ≡ true)
 ChoosesBy loop_choice.OutOrIn l place t =
     (plain.is_over l place t ≡ false) × (nat_lt t.count l.lo ≡ false) × (l.greedy ≡ false)
-
--- past `lo` in a loop without a bound, which goes on first: each iteration from here on is like the one here
-abbrev pub Repeats : states.Loop → List LoopCounter → Type 0
-Repeats loop [] = ⊥
-Repeats loop (t ∷ counters) =
-    (loop.greedy ≡ true) × (loop.hi ≡ None) × (loop.asks_moved ≡ false) × (t ≡ record { count = loop.lo; since = None })

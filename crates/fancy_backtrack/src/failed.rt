@@ -1,56 +1,74 @@
 //! The pairs of a state and a place that have no way.
 
-ghost use Rattle.std.specs.Prelude.{◌≡◌, ◌≤◌, ◌<◌, ◌+◌, ◌-◌, ◌++◌, ℕ, ◌∷◌, [], ◌||◌, ◌==◌, false, length, replicate, List, IsTrue, OnOk, OnErr};
-ghost use Rattle.fancy_backtrack.specs.FailedPairs.{bit_is_set, has_pair};
+ghost use Rattle.std.specs.Prelude.{◌≡◌, ℕ, List, ◌||◌, ◌==◌, false, IsTrue, OnOk, OnErr, nat_eq};
+ghost use Rattle.std.specs.HashMap as hash;
 ghost use Rattle.fancy_backtrack.specs.PairKeys.{same_numbers};
+ghost use Rattle.fancy_backtrack.specs.FailedPairs.{has_pair, number_is_set, word_of};
 ghost use Rattle.fancy_backtrack.specs.Bytes.{failed_bytes, saturated};
 
-use crate::pair_bits::PairBits;
-use crate::sparse_pairs::SparsePairs;
+use crate::pair_numbers::PairNumbers;
 use std::alloc::{AllocError, Global};
+use std::collections::{HashMap, HashSet};
 
-/// How many bytes a word of bits holds.
-const WORD_BYTES: usize = 8;
+/// How many times the entries that a search made their room may be, once it is over.
+const SPARE: usize = 16;
 
-/// Pairs that have no way. Where states and counts are few a pair is a bit of its place; others are in a sparse set.
+/// How many bytes a word holds with its index.
+const WORD_BYTES: usize = 16;
+
+/// How many bytes a list holds beside its numbers, and each of its numbers.
+const LIST_BYTES: usize = 24;
+
+const NUMBER_BYTES: usize = 8;
+
+/// Pairs that have no way: a bit of a hashed word for each that has a number, else a list of its numbers.
 #[derive(Drop)]
 pub(crate) struct Failed {
-    /// Which bit a pair has.
-    pair_bits: PairBits,
-    /// The place of the first bits.
+    /// Which number a pair has.
+    numbers: PairNumbers,
+    /// The place of the first numbers.
     base: usize,
-    bits: Vec<u64>,
-    /// How many words of bits were asked for.
-    wanted: usize,
+    /// The pairs whose numbers are `64 * i` to `64 * i + 63`, as bits of the word at `i`.
+    words: HashMap<usize, u64>,
+    /// The state, the place, and of each loop around the count and whether it is to move and has not.
+    lists: HashSet<Vec<usize>>,
+    /// How many bytes the lists hold.
+    list_bytes: usize,
     /// How many bytes it may hold.
     most: usize,
-    sparse: SparsePairs,
 }
 
 impl Failed {
-    /// No pairs of a fragment whose pairs have these bits, in a search from `base` on.
-    pub(crate) fn new(alloc: Global, pair_bits: PairBits, base: usize) -> Failed
+    /// No pairs, in a search from `base` on.
+    pub(crate) fn new(alloc: Global, numbers: PairNumbers, base: usize) -> Failed
         ensures { (k : List ℕ) → has_pair result k ≡ false }
     {
         Failed {
-            pair_bits,
+            numbers,
             base,
-            bits: Vec::new(alloc),
-            wanted: 0,
+            words: HashMap::new(alloc),
+            lists: HashSet::new(alloc),
+            list_bytes: 0,
             most: usize::MAX,
-            sparse: SparsePairs::new(alloc, pair_bits.numbers, base),
         }
     }
 
     /// As `new` for another search, with the room of this one.
-    pub(crate) fn clear(&mut self, pair_bits: PairBits, base: usize)
+    pub(crate) fn clear(&mut self, numbers: PairNumbers, base: usize)
         ensures { (k : List ℕ) → has_pair self.new k ≡ false }
     {
-        self.pair_bits = pair_bits;
+        self.numbers = numbers;
         self.base = base;
-        self.bits.clear();
-        self.wanted = 0;
-        self.sparse.clear(pair_bits.numbers, base);
+        self.list_bytes = 0;
+        if self.is_empty() {
+            return;
+        }
+        let used = self.words.len();
+        self.words.clear();
+        self.words.shrink_to(used.saturating_mul(SPARE));
+        let used = self.lists.len();
+        self.lists.clear();
+        self.lists.shrink_to(used.saturating_mul(SPARE));
     }
 
     /// It may hold so many bytes.
@@ -60,131 +78,81 @@ impl Failed {
         self.most = bytes;
     }
 
-    /// How many bytes it holds; with words that were refused, as many as it would.
-    pub(crate) fn bytes(&self) -> usize
-        ensures { result ≡ saturated (failed_bytes self.now) }
-    {
-        let bits = self.wanted.saturating_mul(WORD_BYTES);
-        bits.saturating_add(self.sparse.bytes())
-    }
-
     /// No pair was added.
     #[inline(always)]
     pub(crate) fn is_empty(&self) -> bool
         ensures { IsTrue result → (k : List ℕ) → has_pair self.now k ≡ false }
     {
-        self.bits.is_empty() && self.sparse.is_empty()
+        self.words.is_empty() && self.lists.is_empty()
+    }
+
+    /// How many bytes the words and the lists hold.
+    pub(crate) fn bytes(&self) -> usize
+        ensures { result ≡ saturated (failed_bytes self.now) }
+    {
+        let words = self.words.len().saturating_mul(WORD_BYTES);
+        words.saturating_add(self.list_bytes)
     }
 
     /// Whether a pair with these numbers is among them.
     pub(crate) fn has(&self, pair: &[usize]) -> bool
         ensures { result ≡ has_pair self.now pair.now }
     {
-        match self.pair_bits.bit(self.base, pair) {
-            Some(bit) => has_bit(&self.bits, bit),
-            None => self.sparse.has(pair),
+        match self.numbers.number(self.base, pair) {
+            Some(number) => has_number(&self.words, number),
+            None => self.lists.contains(pair),
         }
     }
 
-    /// Whether this pair, which is outside all loops that count, is among them.
-    #[inline(always)]
-    pub(crate) fn has_outside(&self, at: usize, place: usize) -> bool
-        ensures { result ≡ has_pair self.now (at ∷ place ∷ []) }
-    {
-        match self.pair_bits.bit_outside(self.base, at, place) {
-            Some(bit) => has_bit(&self.bits, bit),
-            None => self.has(&[at, place]),
-        }
-    }
-
-    /// One more.
+    /// One more, unless it holds more bytes than it may.
     #[inline(never)]
     pub(crate) fn add(&mut self, alloc: Global, pair: &[usize]) -> Result<(), AllocError>
         ensures ok { OnOk result ((k : List ℕ) → has_pair self.new k
             ≡ (same_numbers k pair.now || has_pair self.old k)) }
         ensures err { OnErr result ((k : List ℕ) → has_pair self.new k ≡ has_pair self.old k) }
     {
-        match self.pair_bits.bit(self.base, pair) {
-            Some(bit) => {
-                ask(&mut self.wanted, self.most, bit)?;
-                set_bit(&mut self.bits, bit)
-            }
-            None if self.bytes() > self.most => Err(AllocError),
-            None => self.sparse.add(alloc, pair),
+        if self.bytes() > self.most {
+            return Err(AllocError);
         }
-    }
-
-    /// One more, outside all loops that count.
-    #[inline(always)]
-    pub(crate) fn add_outside(
-        &mut self,
-        alloc: Global,
-        at: usize,
-        place: usize,
-    ) -> Result<(), AllocError>
-        ensures ok { OnOk result ((k : List ℕ) → has_pair self.new k
-            ≡ (same_numbers k (at ∷ place ∷ []) || has_pair self.old k)) }
-        ensures err { OnErr result ((k : List ℕ) → has_pair self.new k ≡ has_pair self.old k) }
-    {
-        match self.pair_bits.bit_outside(self.base, at, place) {
-            Some(bit) => {
-                ask(&mut self.wanted, self.most, bit)?;
-                set_bit(&mut self.bits, bit)
+        match self.numbers.number(self.base, pair) {
+            Some(number) => set_number(&mut self.words, number),
+            None => {
+                let bytes = pair
+                    .len()
+                    .saturating_mul(NUMBER_BYTES)
+                    .saturating_add(LIST_BYTES);
+                let pair = Vec::from_slice(alloc, pair)?;
+                self.lists.insert(pair)?;
+                self.list_bytes = self.list_bytes.saturating_add(bytes);
+                Ok(())
             }
-            None => self.add(alloc, &[at, place]),
         }
     }
 }
 
-#[inline(always)]
-fn has_bit(bits: &[u64], bit: usize) -> bool
-    ensures { result ≡ bit_is_set bits.now bit }
+/// The word at this index: without bits, where there is none.
+fn word_at(words: &HashMap<usize, u64>, index: usize) -> u64
+    ensures { result ≡ word_of (hash.get nat_eq words.now index) }
 {
-    match bits.get(bit / 64) {
-        Some(word) => word >> (bit % 64) & 1 == 1,
-        None => false,
+    match words.get(&index) {
+        Some(word) => *word,
+        None => 0,
     }
 }
 
-/// Asks for the word of this bit, and refuses it where the words up to it hold more bytes than may be.
-#[inline(always)]
-fn ask(wanted: &mut usize, most: usize, bit: usize) -> Result<(), AllocError> {
-    let words = bit / 64 + 1;
-    if words <= *wanted {
-        return Ok(());
-    }
-    *wanted = words;
-    if words > most / WORD_BYTES {
-        Err(AllocError)
-    } else {
-        Ok(())
-    }
+fn has_number(words: &HashMap<usize, u64>, number: usize) -> bool
+    ensures { result ≡ number_is_set words.now number }
+{
+    word_at(words, number / 64) >> (number % 64) & 1 == 1
 }
 
-#[inline(always)]
-fn set_bit(bits: &mut Vec<u64>, bit: usize) -> Result<(), AllocError>
-    ensures ok { OnOk result ((n : ℕ) → bit_is_set bits.new.items n
-        ≡ (n == bit || bit_is_set bits.old.items n)) }
-    ensures err { OnErr result (bits.new.items ≡ bits.old.items) }
+fn set_number(words: &mut HashMap<usize, u64>, number: usize) -> Result<(), AllocError>
+    ensures ok { OnOk result ((n : ℕ) → number_is_set words.new n
+        ≡ (n == number || number_is_set words.old n)) }
+    ensures err { OnErr result (words.new.entries ≡ words.old.entries) }
 {
-    let word = bit / 64;
-    if bits.len() <= word {
-        grow(bits, word)?;
-    }
-    bits[word] |= 1 << (bit % 64);
+    let index = number / 64;
+    let word = word_at(words, index) | 1 << (number % 64);
+    words.insert(index, word)?;
     Ok(())
-}
-
-/// Makes room for this word.
-#[cold]
-#[inline(never)]
-fn grow(bits: &mut Vec<u64>, word: usize) -> Result<(), AllocError>
-    requires small { length bits.old.items ≤ word }
-    requires fits { word < usize.MAX }
-    ensures items { OnOk result (bits.new.items
-        ≡ bits.old.items ++ replicate (word + 1 - length bits.old.items) 0) }
-    ensures len { OnOk result (length bits.new.items ≡ word + 1) }
-    ensures err { OnErr result (bits.new.items ≡ bits.old.items) }
-{
-    bits.resize(word + 1, 0)
 }

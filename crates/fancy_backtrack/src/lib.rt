@@ -7,7 +7,5 @@ pub mod budget;
 mod failed;
 pub mod loops;
 pub mod memo;
-pub mod pair_bits;
 pub mod pair_numbers;
-mod sparse_pairs;
 pub mod trail;

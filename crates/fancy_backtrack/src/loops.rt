@@ -50,14 +50,6 @@ impl Loop {
         counter.since == Some(place) || (self.hi != usize::MAX && counter.count >= self.hi)
     }
 
-    /// Which way is the second one from a head here, where there are two: out of the loop or into it.
-    pub fn second_way(self, at: usize, after: usize) -> usize
-        requires { at < usize.MAX }
-        ensures { result ≡ (if self.greedy then after else at + 1) }
-    {
-        if self.greedy { after } else { at + 1 }
-    }
-
     /// The iteration that begins here. Past `lo` a loop without a bound counts no more.
     pub(crate) fn next_counter(self, counter: LoopCounter, place: usize) -> LoopCounter
         requires { plain.is_over (loop_of self) place (counter_of counter) ≡ false }

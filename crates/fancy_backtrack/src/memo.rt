@@ -6,7 +6,7 @@ ghost use Rattle.fancy_nfa_laws.specs.NfaSearch.{Search, TakesUp, pair_of};
 ghost use Rattle.fancy_nfa_laws.specs.NfaStates as states;
 ghost use Rattle.fancy_backtrack.specs.PairKeys.{key_of, counter_numbers};
 ghost use Rattle.fancy_backtrack.specs.Paths.{HasCounters, counter_of};
-ghost use Rattle.fancy_backtrack.specs.Loops.{loop_of, Repeats};
+ghost use Rattle.fancy_backtrack.specs.Loops.{loop_of};
 ghost use Rattle.fancy_backtrack.specs.BacktrackStack.{choices_of, Pops};
 ghost use Rattle.fancy_backtrack.specs.Bytes.{bytes_of};
 ghost use Rattle.fancy_backtrack.specs.Memos.{HaveFailed, IsHere, IsLoopSplitOf, IsSearch, Keeps, Continuation, Simulates, onward, run_search};
@@ -15,7 +15,7 @@ use crate::backtrack_stack::{BacktrackStack, StackFrame};
 use crate::budget::Budget;
 use crate::failed::Failed;
 use crate::loops::{Loop, LoopChoice};
-use crate::pair_bits::PairBits;
+use crate::pair_numbers::PairNumbers;
 use crate::trail::{Entry, LoopCounter, NfaConfig, Trail};
 use std::alloc::{AllocError, Global};
 
@@ -92,15 +92,15 @@ fn push_counters(
 }
 
 impl Memo {
-    /// For searches by one NFA in one text, from `pos` on, where its pairs have these bits: no pair is known. They may
+    /// For searches by one NFA in one text, from `pos` on, where its pairs have these numbers: no pair is known. They may
     /// take as much as can be counted.
-    pub fn new(alloc: Global, pair_bits: PairBits, pos: usize) -> Memo
+    pub fn new(alloc: Global, pair_numbers: PairNumbers, pos: usize) -> Memo
         ensures failed { HaveFailed result (λ pair. false) }
         ensures budget { result.budget ≡ record { visits = u64.MAX; bytes = usize.MAX } }
     {
         Memo {
             alloc,
-            failed: Failed::new(alloc, pair_bits, pos),
+            failed: Failed::new(alloc, pair_numbers, pos),
             frames: BacktrackStack::new(alloc),
             trail: Trail::new(alloc),
             numbers: Vec::new(alloc),
@@ -111,13 +111,13 @@ impl Memo {
 
     /// As `new` for another NFA or text, with the room and the budget of this one, in time that follows what was
     /// memoized.
-    pub fn clear(&mut self, pair_bits: PairBits, pos: usize)
+    pub fn clear(&mut self, pair_numbers: PairNumbers, pos: usize)
         ensures failed { HaveFailed self.new (λ pair. false) }
         ensures budget { self.new.budget ≡ self.old.budget }
     {
         self.frames.forget();
         self.trail.truncate(0);
-        self.failed.clear(pair_bits, pos);
+        self.failed.clear(pair_numbers, pos);
     }
 
     /// The next searches may each take up so many states, and hold so many bytes with what earlier ones memoized. A
@@ -236,7 +236,7 @@ impl Memo {
             return Ok(false);
         }
         if config.counters == 0 {
-            return Ok(self.failed.has_outside(config.at, config.place));
+            return Ok(self.failed.has(&[config.at, config.place]));
         }
         self.has_failed_inside(NfaConfig { ..config })
     }
@@ -275,26 +275,11 @@ impl Memo {
             return false;
         }
         if config.counters == 0 {
-            return self.failed.has_outside(config.at, config.place);
+            return self.failed.has(&[config.at, config.place]);
         }
         match self.trail.counter(config.counters) {
             Some((counter, 0)) => self.failed.has(&numbers_inside(config, counter)),
             _ => true,
-        }
-    }
-
-    /// At the head of this loop each iteration from here on is like the one here, and the way on into it comes first.
-    #[inline(always)]
-    pub fn repeats(&self, bounds: Loop, config: NfaConfig) -> bool
-        ensures { IsTrue result → (s : plain.NfaConfig) → IsHere self.now config s
-            → Repeats (loop_of bounds) s.counters }
-    {
-        if !bounds.greedy || bounds.asks_moved || bounds.hi != usize::MAX {
-            return false;
-        }
-        match self.trail.counter(config.counters) {
-            Some((counter, _)) => counter.count == bounds.lo && counter.since.is_none(),
-            None => false,
         }
     }
 
@@ -310,7 +295,7 @@ impl Memo {
             ≡ record self.old { numbers = self.new.numbers; failed = self.new.failed } }
     {
         if config.counters == 0 {
-            return self.failed.add_outside(self.alloc, config.at, config.place);
+            return self.failed.add(self.alloc, &[config.at, config.place]);
         }
         self.add_failed_inside(NfaConfig { ..config })
     }

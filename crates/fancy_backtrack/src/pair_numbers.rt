@@ -3,8 +3,6 @@
 ghost use Rattle.std.specs.Prelude.{◌≡◌};
 ghost use Rattle.fancy_backtrack.specs.PairNumbers.{counter_digit, counters_value, pair_value, shifted};
 
-use crate::pair_bits::Loops;
-
 /// The most numbers of iterations that a pair may have, two of each: more have no number in 64 bits.
 const MOST: usize = 128;
 
@@ -25,9 +23,22 @@ pub struct PairNumbers {
     step: usize,
 }
 
+/// What the loops of a fragment that count ask for.
+#[derive(Clone, Copy)]
+pub struct Loops {
+    /// How many different counts there are.
+    pub counts: usize,
+    /// How many numbers of whether an iteration has stayed.
+    pub stays: usize,
+    /// How many loops are around the state that has most of them.
+    pub depth: usize,
+    /// How many bytes an iteration takes, as far as is known.
+    pub step: usize,
+}
+
 impl PairNumbers {
     /// Those of a fragment of so many states with these loops. Whatever is chosen here, no two pairs have one number.
-    pub(crate) fn of(states: usize, loops: Loops) -> PairNumbers {
+    pub fn of(states: usize, loops: Loops) -> PairNumbers {
         let base = loops.counts.saturating_mul(loops.stays).saturating_add(1);
         let mut width: usize = 1;
         for _ in 0..loops.depth.min(MOST / 2) {

@@ -41,3 +41,12 @@ none_later rs i c canonical inside below =
     inl (rw get_or-drop (omega arith))) in
     sym (or-false _) ∙ ap (λ b. in_ranges (take i rs) c || b) (sym none)
     ∙ sym (in_ranges-append (take i rs) (drop i rs) c) ∙ ap (λ l. in_ranges l c) (take-append-drop i rs)
+
+-- a range that ends with ASCII holds no number beyond
+pub none_beyond : (rs : List Range) (i k : ℕ) → (range_at rs i).1 < 128 → 128 ≤ k → in_ranges (take i rs) k ≡ false →
+    (in_ranges (take i rs) k || in_range (range_at rs i) k) ≡ false
+none_beyond rs i k ends far none =
+    ap (λ b. b || in_range (range_at rs i) k) none ∙ outside (range_at rs i) ends
+  where
+    outside : (r : Range) → r.1 < 128 → in_range r k ≡ false
+    outside r ends = grind (arith, nat_tests, far, in_range_tells r k)

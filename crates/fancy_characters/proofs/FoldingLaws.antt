@@ -1,13 +1,13 @@
 -- Folding of numbers, and rows of tests on characters.
-use Rattle.std.proofs.Common.{◌≡◌, ℕ, ◌+◌, ◌-◌, ◌<◌, ◌≤◌, ◌⊎◌, arith, Bool, true, false, true≢false, ◌&&◌, ◌==◌, List, [], ◌∷◌, length, map, drop, get_or, slice_index_or, refl, sym, ap, ◌∙◌, ne_eqb, eq-eqb, ◌≢◌, Option, Some, None, if◌then◌else◌, option_and_then}
+use Rattle.std.proofs.Common.{◌≡◌, ℕ, ◌+◌, ◌-◌, ◌<◌, ◌≤◌, ◌⊎◌, arith, Bool, true, false, true≢false, ◌&&◌, ◌||◌, ◌==◌, nat_le, nat_lt, List, [], ◌∷◌, length, map, drop, get_or, slice_index_or, refl, sym, ap, ◌∙◌, ne_eqb, eq-eqb, ◌≢◌, Option, Some, None, if◌then◌else◌, option_and_then}
 use Rattle.std.proofs.lemmas.Bool.Decides.{nat_tests}
 use Rattle.std.proofs.lemmas.List.{drop-map}
-use Rattle.std.specs.Char.{len_utf8, to_ascii_lowercase}
+use Rattle.std.specs.Char.{eq_ignore_ascii_case, len_utf8, to_ascii_lowercase}
 use Rattle.ucd_table.proofs.Computing.{tables}
 use Rattle.ucd_table.proofs.RangedFacts.{points_ok, Stepped-at_points}
 use Rattle.regex_hir.specs.Text.{is_scalar, char_at}
 use Rattle.ucd_case.specs.CaseFolding.{simple_folding, simple_fold}
-use Rattle.ucd_case.proofs.CaseFoldingLemmas.{simple_folding_stepped}
+use Rattle.ucd_case.proofs.CaseFoldingLemmas.{simple_fold-ascii, simple_folding_stepped}
 use Rattle.fancy_characters.proofs.RestLaws.{rest_here}
 use Rattle.fancy_meaning.specs.Chars.{fold_equal, fold_equal_chars}
 use Rattle.fancy_meaning.specs.Moves.{past_chars}
@@ -27,6 +27,36 @@ fold_none c (x ∷ xs) h other = absurd (true≢false (sym (h refl) ∙ other))
 -- a number that is no character folds to itself
 pub fold_other : (c : ℕ) → is_scalar c ≡ false → c ≡ simple_fold c
 fold_other c = fold_none c (simple_folding c) (folds_characters c)
+
+-- ---- characters beyond ASCII that fold to one of ASCII: to `k` and `s` alone
+
+abbrev folds_apart : (c : ℕ) → List ℕ → Bool
+folds_apart c v = nat_lt c 128 || (nat_le 128 (slice_index_or v 0 c) || (slice_index_or v 0 c == 107 || slice_index_or v 0 c == 115))
+
+folds_apart_if_listed : (c : ℕ) → is_empty (simple_folding c) ≡ false → folds_apart c (simple_folding c) ≡ true
+unfolding tables points_ok simple_folding_stepped
+folds_apart_if_listed = Stepped-at_points simple_folding simple_folding_stepped is_empty folds_apart refl
+
+apart_if_none : (c : ℕ) (v : List ℕ) → (is_empty v ≡ false → folds_apart c v ≡ true) → folds_apart c v ≡ true
+apart_if_none c [] h = grind (arith, nat_tests)
+apart_if_none c (x ∷ xs) h = h refl
+
+no_k_or_s : (d folded : ℕ) → 128 ≤ d → (nat_lt d 128 || (nat_le 128 folded || (folded == 107 || folded == 115))) ≡ true →
+    (l : ℕ) → l < 128 → (l ≡ 107 → ⊥) → (l == 115) ≡ false → (l == folded) ≡ false
+no_k_or_s d folded far apart l small k s = grind (arith, nat_tests, k)
+
+pub no_fold_beyond : (c d l : ℕ) → c < 128 → 128 ≤ d → l ≡ to_ascii_lowercase c → (l ≡ 107 → ⊥) → (l == 115) ≡ false →
+    fold_equal c d ≡ false
+unfolding fold_equal
+no_fold_beyond c d l small far is k s =
+    ap (λ x. x == simple_fold d) (simple_fold-ascii c small ∙ sym is)
+    ∙ no_k_or_s d (simple_fold d) far (apart_if_none d (simple_folding d) (folds_apart_if_listed d)) l (lower_is_small c l small is) k s
+  where
+    lower_is_small : (c l : ℕ) → c < 128 → l ≡ to_ascii_lowercase c → l < 128
+    lower_is_small c l small is = grind (arith, nat_tests, is)
+
+pub no_case_beyond : (c d : ℕ) → c < 128 → 128 ≤ d → eq_ignore_ascii_case c d ≡ false
+no_case_beyond c d small far = grind (arith, nat_tests)
 
 -- ---- the two cases of an ASCII letter
 

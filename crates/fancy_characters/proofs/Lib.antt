@@ -8,3 +8,4 @@ pub mod ClassLaws
 pub mod MembersLaws
 pub mod ThreadsLaws
 pub mod SimpleLaws
+pub mod OthersLaws

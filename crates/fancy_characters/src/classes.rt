@@ -1,6 +1,6 @@
 //! Matchers of one character: a class or a newline (`CharClassMatcher`).
 
-ghost use Rattle.std.specs.Prelude.{◌≡◌, ◌+◌, ◌≤◌, ◌<◌, Some, length, option_map, IfOk, IfErr, IfSome, IsTrue};
+ghost use Rattle.std.specs.Prelude.{◌≡◌, ◌+◌, ◌≤◌, ◌<◌, Some, false, length, option_map, IfOk, IfErr, IfSome, IsTrue};
 ghost use Rattle.regex_hir.specs.Text as spelled;
 ghost use Rattle.fancy_meaning.specs.Chars as meant;
 ghost use Rattle.fancy_meaning.specs.Instr as plain;
@@ -10,7 +10,8 @@ ghost use Rattle.fancy_expr.specs.declared.error.Error.TheVariants.{Memory};
 
 pub use crate::compiled::{CompiledClass, class_ranges};
 pub use crate::folding::{
-    CaseiLiteral, ascii_folds, fold_equal, literal_takes, matches_literal_casei_unicode,
+    CaseiLiteral, ascii_folds, fold_equal, folds_to_others, literal_takes,
+    matches_literal_casei_unicode,
 };
 pub use crate::pieces::past_piece;
 use crate::spelling::len_utf8;
@@ -38,6 +39,7 @@ impl Drop for CharClassMatcher {
 
 impl CharClassMatcher {
     ghost use Rattle.fancy_characters.specs.Classes.{class_of, class_name, IsClassRefusal};
+    ghost use Rattle.fancy_characters.specs.Others.{LacksOthers};
 
     /// The class of this text, as `regex` reads it.
     pub fn codepoint(
@@ -80,6 +82,16 @@ impl CharClassMatcher {
         match self {
             CharClassMatcher::Codepoint(class) => class.takes_ascii(c),
             CharClassMatcher::Newline { unicode } => is_newline(c as u32, *unicode),
+        }
+    }
+
+    /// Whether a character beyond ASCII may be in the class. Where it returns false none is.
+    pub fn takes_others(&self) -> bool
+        ensures { result ≡ false → LacksOthers (class_test (class_of self.now)) }
+    {
+        match self {
+            CharClassMatcher::Codepoint(class) => class.takes_others(),
+            CharClassMatcher::Newline { unicode } => *unicode,
         }
     }
 

@@ -64,6 +64,7 @@ impl Model for CompiledClass {
 
 impl CompiledClass {
     ghost use Rattle.fancy_characters.specs.Classes.{IsClassRefusal};
+    ghost use Rattle.fancy_characters.specs.Others.{LacksOthers};
 
     pub(crate) fn new(
         alloc: Global,
@@ -133,6 +134,18 @@ impl CompiledClass {
             ≡ meant.class_takes self.now.unicode self.now.inner self.now.casei c }
     {
         self.ascii[c as usize]
+    }
+
+    /// Whether the class may hold a character beyond ASCII. Where it returns false it holds none.
+    pub(crate) fn takes_others(&self) -> bool
+        ensures { result ≡ false → LacksOthers
+            (meant.class_takes self.now.unicode self.now.inner self.now.casei) }
+    {
+        match &self.others {
+            Others::Simple(simple) => simple.takes_others(),
+            Others::Listed(members) => has_others(members),
+            Others::Asked(_) => true,
+        }
     }
 
     /// Whether the class holds the character.
@@ -214,6 +227,18 @@ fn ascii_members(members: &Class) -> [bool; 128]
         say_yes(&mut answers, *range);
     }
     answers
+}
+
+/// Whether a member is beyond ASCII.
+fn has_others(members: &Class) -> bool
+    ensures { result ≡ false → (c : ℕ) → 128 ≤ c → in_ranges members.now.ranges.items c ≡ false }
+{
+    'list: for range in members.ranges.iter() {
+        if range.1 >= 128 {
+            return true;
+        }
+    }
+    false
 }
 
 /// Says yes to the ASCII characters of the range.

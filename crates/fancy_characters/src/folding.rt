@@ -1,10 +1,11 @@
 //! Simple case folding: characters and texts that fold to the same, and literals with folded characters.
 
-ghost use Rattle.std.specs.Prelude.{◌≡◌, ◌+◌, ◌<◌, ◌≤◌, ◌⊎◌, ℕ, IsTrue, max, length, chars, option_map, true, IfSome};
+ghost use Rattle.std.specs.Prelude.{◌≡◌, ◌+◌, ◌<◌, ◌≤◌, ◌⊎◌, ℕ, IsTrue, max, length, chars, option_map, true, false, IfSome};
 ghost use Rattle.std.specs.Char.{to_ascii_lowercase};
 ghost use Rattle.ucd_case.specs.CaseFolding as table;
 ghost use Rattle.fancy_meaning.specs.Chars as meant;
 ghost use Rattle.fancy_meaning.specs.Moves.{past_chars};
+ghost use Rattle.fancy_characters.specs.Others.{LacksOthers};
 
 use crate::spelling::{len_utf8, spelled_at};
 use regex_nfa::char_at;
@@ -103,6 +104,18 @@ fn lower_case(unicode: bool, c: u32) -> u32
     }
 }
 
+/// Whether a folded literal of the character `c` may take a character beyond ASCII: of ASCII letters two fold to one, `k` to
+/// the Kelvin sign and `s` to the long s. Where it returns false it takes none.
+pub fn folds_to_others(unicode: bool, c: u32) -> bool
+    ensures { result ≡ false → LacksOthers (meant.literal_takes unicode c true) }
+{
+    if c >= 128 {
+        return true;
+    }
+    let lower = ascii_lower(c);
+    unicode && (lower == 107 || lower == 115)
+}
+
 /// Characters in order, each folded or not.
 pub struct CaseiLiteral {
     chars: Vec<(char, bool)>,
@@ -144,6 +157,17 @@ impl CaseiLiteral {
         match self.chars.first() {
             None => true,
             Some((first, casei)) => literal_takes(self.unicode, *first as u32, *casei, c as u32),
+        }
+    }
+
+    /// Whether it may take what begins with a character beyond ASCII. Where it returns false it takes none.
+    pub fn can_begin_with_others(&self) -> bool
+        ensures { result ≡ false → LacksOthers (can_begin_with (literal_tests self.now)) }
+    {
+        match self.chars.first() {
+            None => true,
+            Some((first, true)) => folds_to_others(self.unicode, *first as u32),
+            Some((first, false)) => *first as u32 >= 128,
         }
     }
 

@@ -1,7 +1,7 @@
 //! The classes that are told by their texts: `\w`, `\d` and `\s` by Unicode, and one range of ASCII letters or digits in
 //! brackets.
 
-ghost use Rattle.std.specs.Prelude.{◌≡◌, ◌<◌, ℕ, IfSome, false, true, slice_index_or};
+ghost use Rattle.std.specs.Prelude.{◌≡◌, ◌<◌, ◌≤◌, ℕ, IfSome, false, true, slice_index_or};
 ghost use Rattle.fancy_characters.specs.SimpleClasses.{IsTold, is_in_simple, simple_text};
 
 use ucd_category::GeneralCategory;
@@ -68,6 +68,16 @@ impl SimpleClass {
             SimpleClass::Space => is_white_space(c),
             SimpleClass::Range(first, last) => (first as u32) <= c as u32
                 && c as u32 <= last as u32,
+        }
+    }
+
+    /// Whether the class may hold a character beyond ASCII. Where it returns false it holds none.
+    pub(crate) fn takes_others(self) -> bool
+        ensures { result ≡ false → (c : ℕ) → 128 ≤ c → is_in_simple self c ≡ false }
+    {
+        match self {
+            SimpleClass::Range(_, last) => last >= 128,
+            _ => true,
         }
     }
 

@@ -1,5 +1,5 @@
 -- The nodes of a fragment are those that it was built of.
-use Rattle.std.proofs.Common.{◌≡◌, ℕ, ◌+◌, ◌*◌, ◌<◌, Bool, true, nat_le, Option, Some, None, IfSome, Box, Global, List, [], ◌∷◌, ◌++◌, length, map, take, get_or, refl, sym, ap, ap₂, subst, ◌∙◌}
+use Rattle.std.proofs.Common.{◌≡◌, ℕ, ◌+◌, ◌*◌, ◌<◌, Bool, nat_le, List, [], ◌∷◌, ◌++◌, length, map, take, get_or, refl, sym, ap, ap₂, subst, ◌∙◌}
 use Rattle.std.proofs.lemmas.List.{map-append}
 use Rattle.fancy_meaning.specs.Tree.{Within, trees, children}
 use Rattle.fancy_meaning.specs.Numbering.{each_numbered}
@@ -10,11 +10,10 @@ use Rattle.fancy_expr.specs.Views.{tree_of}
 use Rattle.fancy_expr.proofs.Walks.{taken}
 use Rattle.fancy_info.specs.declared.info.Info.{Info}
 use Rattle.fancy_info.specs.Infos.{info_tree, AreInTurn, IsAnalysed}
-use Rattle.fancy_joining.specs.JoinedLoops.{joined}
 use Rattle.fancy_nfa.specs.declared.nfa.Nfa.{Nfa}
 use Rattle.fancy_nfa.specs.Neighbours.{IsEasy}
 use Rattle.fancy_nfa.specs.Nfas.{AreFine, IsNfaOf}
-use Rattle.fancy_fragments.specs.Nodes.{AreEasyNeighbours, BeginAt, IsLaidOut, IsOfJoined, fits_over, nodes_over, plain_tree}
+use Rattle.fancy_fragments.specs.Nodes.{AreEasyNeighbours, BeginAt, IsLaidOut, fits_over, nodes_over, plain_tree}
 use Rattle.fancy_fragments.specs.Settable.{settable_above}
 use Rattle.fancy_fragments.proofs.Numbered.{are_numbered}
 use Rattle.fancy_fragments.proofs.SettableNodes.{children_listed, fits_below}
@@ -55,15 +54,6 @@ module _ (is : List Info) (h : AreEasyNeighbours is) (exprs : List Expr) (copied
       ∥ IsLaidOut (nodes_over exprs first w) unicode nfa ∥₁
   laid_over unicode nfa made =
       ∣ (h.analysis, subst (λ es. IsNfaOf h.analysis es unicode nfa) (sym same_nodes) (made h.analysis h.each h.fine)) ∣₁
-
-  pub joined_over : (unicode : Bool) (o : Option (Box Nfa Global)) → IfSome o (λ n. IsOfJoined unicode is n.value) →
-      IfSome o (λ n. ∥ IsLaidOut (map (joined true) (nodes_over exprs first w)) unicode n.value ∥₁)
-  joined_over unicode None made = tt
-  joined_over unicode (Some n) made =
-      ∣ (
-        h.analysis,
-        subst (λ es. IsNfaOf h.analysis (map (joined true) es) unicode n.value) (sym same_nodes) (made h.analysis h.each h.fine),
-      ) ∣₁
 
   pub fits_copied : (settable : ℕ) → settable ≡ settable_above (map info_tree is) → (slots : ℕ) →
       fits_over slots (nodes_over exprs first w) ≡ nat_le (2 * settable) slots

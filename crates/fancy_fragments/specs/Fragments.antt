@@ -1,6 +1,5 @@
 -- What a fragment stands for, and what its search answers.
-use Rattle.std.specs.Prelude.{◌≡◌, ◌≤◌, ◌-◌, ℕ, Bool, List, length, Option, None, Some, Box}
-use Rattle.std.specs.Global.{Global}
+use Rattle.std.specs.Prelude.{◌≡◌, ◌≤◌, ◌-◌, ℕ, Bool, List, length, Option, None, Some}
 use Rattle.fancy_meaning.specs.Tree.{Tree}
 use Rattle.fancy_meaning.specs.Instr as plain
 use Rattle.fancy_meaning.specs.Options.{Analysis}
@@ -10,7 +9,6 @@ use Rattle.fancy_nfa_laws.specs.FirstWays.{AreEasy, first_seen}
 use Rattle.fancy_expr.specs.Walk.{within_of}
 use Rattle.fancy_nfa.specs.declared.first_way.FirstWay.{FirstWay}
 use Rattle.fancy_backtrack.specs.declared.memo.Memo.{Memo}
-use Rattle.fancy_nfa.specs.declared.nfa.Nfa.{Nfa}
 use Rattle.fancy_nfa.specs.declared.one_pass.OnePass.{OnePass}
 use Rattle.fancy_nfa.specs.declared.one_pass.OnePass.TheVariants as one_pass
 use Rattle.fancy_nfa.specs.OnePass.{IsSeenWay}
@@ -63,17 +61,3 @@ IsOnePassWayOf text f place spans one_pass.Unknown = Unit {0}
 -- it knows what searches of this fragment in this text have memoized, and no more
 abbrev pub IsMemoFor : (text : List ℕ) → Fragment → Memo → Type 0
 IsMemoFor text f m = IsMemoOf text f.nfa m
-
--- ---- with loops joined
-
-abbrev pub nfa_or : Nfa → Option (Box Nfa Global) → Nfa
-nfa_or nfa None = nfa
-nfa_or nfa (Some joined) = joined.value
-
--- by which the machine searches
-abbrev pub joined_nfa : Fragment → Nfa
-joined_nfa f = nfa_or f.nfa f.of_joined
-
--- it knows what searches by this NFA in this text have memoized, and no more
-abbrev pub IsJoinedMemoFor : (text : List ℕ) → Fragment → Memo → Type 0
-IsJoinedMemoFor text f m = IsMemoOf text (joined_nfa f) m

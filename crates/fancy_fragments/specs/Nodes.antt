@@ -1,5 +1,5 @@
 -- Neighbouring easy nodes, as infos and as expressions that are kept.
-use Rattle.std.specs.Prelude.{◌≡◌, ℕ, Bool, true, List, [], ◌∷◌, ◌+◌, ◌*◌, map, flat_map, nat_lt}
+use Rattle.std.specs.Prelude.{◌≡◌, ℕ, Bool, List, [], ◌∷◌, ◌+◌, ◌*◌, map, flat_map, nat_lt}
 use Rattle.std.specs.List.{list_all}
 use Rattle.fancy_meaning.specs.Tree.{Tree, Within, trees, children}
 use Rattle.fancy_meaning.specs.Numbering.{each_numbered}
@@ -11,7 +11,6 @@ use Rattle.fancy_expr.specs.Each.{Each}
 use Rattle.fancy_info.specs.declared.info.Info.{Info}
 use Rattle.fancy_info.specs.Infos.{info_tree, info_expr, info_within, info_facts, AreInTurn, IsAnalysed}
 use Rattle.fancy_nfa.specs.declared.nfa.Nfa.{Nfa}
-use Rattle.fancy_joining.specs.JoinedLoops.{joined}
 use Rattle.fancy_nfa.specs.Neighbours.{IsEasy}
 use Rattle.fancy_nfa.specs.Nfas.{AreFine, IsNfaOf}
 
@@ -31,12 +30,6 @@ nodes_over exprs first w = children (each_numbered w first (trees (map tree_of e
 -- the NFA is that of easy nodes
 abbrev pub IsLaidOut : List Tree → Bool → Nfa → Type 0
 IsLaidOut es unicode nfa = (a : Analysis) × IsNfaOf a es unicode nfa
-
--- the NFA is that of these nodes with their loops joined
-abbrev pub IsOfJoined : Bool → List Info → Nfa → Type 0
-IsOfJoined unicode is nfa =
-    (a : Analysis) → Each (IsEasy a) is → AreFine (map info_tree is) →
-    IsNfaOf a (map (joined true) (map info_tree is)) unicode nfa
 
 -- the pairs that a way of these nodes can set are among the first so many slots
 abbrev pub fits_over : ℕ → List Tree → Bool

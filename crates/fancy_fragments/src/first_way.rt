@@ -6,7 +6,7 @@ ghost use Rattle.fancy_nfa_laws.specs.NfaSearch.{Pair};
 ghost use Rattle.fancy_backtrack.specs.Memos.{HaveFailed};
 ghost use Rattle.fancy_nfa.specs.Searches.{IsMemory};
 ghost use Rattle.fancy_nfa.specs.Ways.{CountsVisits, HasAscending};
-ghost use Rattle.fancy_fragments.specs.Fragments.{IsFirstWayOf, IsJoinedMemoFor, IsMemoFor, joined_nfa};
+ghost use Rattle.fancy_fragments.specs.Fragments.{IsFirstWayOf, IsMemoFor};
 
 use crate::fragment::Fragment;
 use fancy_backtrack::memo::Memo;
@@ -53,27 +53,4 @@ pub fn first_way_with(
     ensures refused { IfErr result IsMemory }
 {
     fancy_nfa::first_way::first_way_with(alloc, &fragment.nfa, text, ix, memo)
-}
-
-/// As `first_way_with`, by the nodes with their loops joined where loops in loops only add up: the same way, and as
-/// many states as that search takes up.
-pub fn first_way_joined(
-    alloc: Global,
-    fragment: &Fragment,
-    text: &str,
-    ix: usize,
-    memo: &mut Memo,
-) -> Result<FirstWay, Error>
-    requires place { IsTrue (is_place text.now ix) }
-    requires memo { IsJoinedMemoFor text.now fragment.now memo.old }
-    ensures first { IfOk result (IsFirstWayOf text.now fragment.now ix) }
-    ensures ascends { IfOk result HasAscending }
-    ensures visits { IfOk result (λ answer. (failed : Pair → Bool) → HaveFailed memo.old failed
-        → CountsVisits text.now (joined_nfa fragment.now) failed ix answer) }
-    ensures memo { IsJoinedMemoFor text.now fragment.now memo.new }
-    ensures within { IfOk result (λ answer. answer.visits ≤ memo.old.budget.visits) }
-    ensures budget { memo.new.budget ≡ memo.old.budget }
-    ensures refused { IfErr result IsMemory }
-{
-    fancy_nfa::first_way::first_way_with(alloc, fragment.joined_nfa(), text, ix, memo)
 }

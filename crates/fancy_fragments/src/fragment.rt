@@ -1,7 +1,6 @@
 //! Fragments: neighbouring easy nodes that are searched for plainly.
 
 ghost use Rattle.std.specs.Prelude.{◌≡◌, ◌*◌, ℕ, List, Option, false, true, IfOk, IfErr, IfSome, map, nat_le};
-ghost use Rattle.fancy_joining.specs.JoinedLoops.{joined};
 ghost use Rattle.std.proofs.Props.{props};
 ghost use Rattle.fancy_meaning.specs.Fits.{fragment_fits};
 ghost use Rattle.fancy_expr.specs.Views.{tree_of};
@@ -13,7 +12,7 @@ ghost use Rattle.fancy_nfa.specs.Neighbours.{AreNeighbours};
 ghost use Rattle.fancy_nfa.specs.Nfas.{HaveClasses, IsRefusedFor};
 ghost use Rattle.fancy_backtrack.specs.Memos.{HaveFailed};
 ghost use Rattle.fancy_nfa.specs.Ways.{HasNoWayAt, IsOfNodes};
-ghost use Rattle.fancy_fragments.specs.Nodes.{AreEasyNeighbours, BeginAt, IsLaidOut, IsOfJoined, fits_over, nodes_over, plain_tree};
+ghost use Rattle.fancy_fragments.specs.Nodes.{AreEasyNeighbours, BeginAt, IsLaidOut, fits_over, nodes_over, plain_tree};
 
 use crate::copies::copy_of;
 use crate::settable::settable_above;
@@ -36,13 +35,9 @@ pub struct Fragment {
     pub(crate) within: Within,
     pub(crate) unicode: bool,
     pub(crate) nfa: Nfa,
-    /// The NFA of the nodes with their loops joined, where some may be: by it the machine searches.
-    pub(crate) of_joined: Option<Box<Nfa>>,
     /// Each group that a way can set has a number below this.
     pub(crate) settable: usize,
     ghost laid_out: { ∥ IsLaidOut (nodes_over exprs.items first_group (within_of within)) unicode nfa ∥₁ },
-    ghost joined_laid_out: { IfSome of_joined (λ n.
-        ∥ IsLaidOut (map (joined true) (nodes_over exprs.items first_group (within_of within))) unicode n.value ∥₁) } by { Prim.hlevel props },
     ghost fits: { (slots : ℕ) → fits_over slots (nodes_over exprs.items first_group (within_of within))
         ≡ nat_le (2 * settable) slots },
 }
@@ -56,14 +51,13 @@ impl Drop for Fragment {
             within: _,
             unicode: _,
             nfa: _,
-            of_joined: _,
             settable: _,
         } = self;
     }
 }
 
 impl Fragment {
-    ghost use Rattle.fancy_fragments.specs.Fragments.{HasNoWayFrom, IsJoinedMemoFor, IsMemoFor, IsOnePassOf, IsOnePassWayOf, fragment_of, joined_nfa};
+    ghost use Rattle.fancy_fragments.specs.Fragments.{HasNoWayFrom, IsMemoFor, IsOnePassOf, IsOnePassWayOf, fragment_of};
 
     /// The fragment of neighbouring nodes of one analysed tree, none of them hard.
     ///
@@ -77,7 +71,6 @@ impl Fragment {
         ensures refused { IfErr result (IsRefusedFor unicode infos.now) }
     {
         let nfa = Nfa::build(alloc, infos, unicode)?;
-        let of_joined = nfa_of_joined(alloc, infos, unicode, &nfa)?;
         let exprs = copies_of_nodes(alloc, infos)?;
         let (first_group, within) = beginning(infos);
         Ok(Fragment {
@@ -86,9 +79,15 @@ impl Fragment {
             within,
             unicode,
             nfa,
-            of_joined,
             settable: settable_above(infos),
         })
+    }
+
+    /// The expressions of its nodes.
+    pub fn exprs(&self) -> &[Expr]
+        ensures { result.now ≡ self.now.exprs.items }
+    {
+        &self.exprs
     }
 
     /// The pairs of all groups that a way can set are among the first so many slots.
@@ -122,35 +121,6 @@ impl Fragment {
         self.nfa.memo(alloc, pos)
     }
 
-    /// The NFA that the machine searches by: that of the nodes, or of the nodes with their loops joined.
-    pub(crate) fn joined_nfa(&self) -> &Nfa
-        ensures nfa { result.now ≡ joined_nfa self.now }
-        ensures nodes { ∥ IsOfNodes result.now ∥₁ }
-    {
-        match &self.of_joined {
-            Some(nfa) => nfa,
-            None => &self.nfa,
-        }
-    }
-
-    /// As `memo`, for `first_way_joined`.
-    pub fn joined_memo(&self, alloc: Global, pos: usize) -> Memo
-        ensures memo { (text : List ℕ) → IsJoinedMemoFor text self.now result }
-        ensures knows { HaveFailed result (λ pair. false) }
-        ensures budget { result.budget ≡ record { visits = u64.MAX; bytes = usize.MAX } }
-    {
-        self.joined_nfa().memo(alloc, pos)
-    }
-
-    /// As `clear`, for `first_way_joined`.
-    pub fn clear_joined(&self, memo: &mut Memo, pos: usize)
-        ensures memo { (text : List ℕ) → IsJoinedMemoFor text self.now memo.new }
-        ensures knows { HaveFailed memo.new (λ pair. false) }
-        ensures budget { memo.new.budget ≡ memo.old.budget }
-    {
-        self.joined_nfa().clear(memo, pos);
-    }
-
     /// Empties a memo of any fragment and any text for this one, and keeps its room.
     pub fn clear(&self, memo: &mut Memo, pos: usize)
         ensures memo { (text : List ℕ) → IsMemoFor text self.now memo.new }
@@ -172,24 +142,6 @@ impl fmt::Debug for Fragment {
             .field("settable", &self.settable)
             .finish_non_exhaustive()
     }
-}
-
-/// The NFA of the nodes with their loops joined, where there are loops in loops.
-fn nfa_of_joined(
-    alloc: Global,
-    infos: &[Info],
-    unicode: bool,
-    nfa: &Nfa,
-) -> Result<Option<Box<Nfa>>, Error>
-    requires { AreNeighbours infos.now }
-    ensures nfa { IfOk result (λ o. IfSome o (λ n. IsOfJoined unicode infos.now n.value)) }
-    ensures refused { IfErr result (IsRefusedFor unicode infos.now) }
-{
-    if !nfa.has_loop_in_loop() {
-        return Ok(None);
-    }
-    let of_joined = Nfa::build_joined(alloc, infos, unicode)?;
-    Ok(Some(Box::new(alloc, of_joined)?))
 }
 
 /// The expressions of the nodes.

@@ -31,8 +31,7 @@ impl LeadingAssertion {
 }
 
 impl Fragment {
-    /// The assertion with which each way begins, if it is known to be that of the start of the text or of a line, or a word
-    /// boundary.
+    /// The assertion with which each way begins, if it is known to be that of the start of the text or of a line.
     pub fn leading_assertion(&self) -> Option<LeadingAssertion>
         ensures { IfSome result (IsLeading self.now) }
     {
@@ -78,7 +77,7 @@ fn begins_with_first(expr: &Expr) -> bool
     }
 }
 
-/// The assertion, if it is that of the start of the text or of a line, or a word boundary.
+/// The assertion, if it is that of the start of the text or of a line.
 fn as_leading(assertion: Assertion) -> Option<Assertion>
     ensures { IfSome result (λ a. (a ≡ assertion)
         × ((w : Within) → assertion_within w (assertion_of a) ≡ assertion_of a)) }
@@ -86,8 +85,6 @@ fn as_leading(assertion: Assertion) -> Option<Assertion>
     match assertion {
         Assertion::StartText => Some(assertion),
         Assertion::StartLine { .. } => Some(assertion),
-        Assertion::WordBoundary => Some(assertion),
-        Assertion::NotWordBoundary => Some(assertion),
         _ => None,
     }
 }

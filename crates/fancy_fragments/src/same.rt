@@ -1,6 +1,6 @@
 //! Whether a fragment is that of some nodes.
 
-ghost use Rattle.std.specs.Prelude.{◌≡◌, map, true, false};
+ghost use Rattle.std.specs.Prelude.{◌≡◌, [], ◌∷◌, map, true, false};
 ghost use Rattle.fancy_meaning.specs.Batches.{fragment};
 ghost use Rattle.fancy_meaning.specs.Tree.{NoLook, Trees};
 ghost use Rattle.fancy_expr.specs.Exprs.{below};
@@ -30,6 +30,16 @@ impl Fragment {
             }
         }
         false
+    }
+
+    /// Whether it has one node, with this expression.
+    pub fn is_of_expr(&self, expr: &Expr) -> bool
+        ensures { result ≡ true → map tree_of self.now.exprs.items ≡ tree_of expr.now ∷ [] }
+    {
+        match self.exprs.as_slice() {
+            [only] => !differs(only, expr),
+            _ => false,
+        }
     }
 }
 

@@ -8,33 +8,33 @@ use Rattle.fancy_meaning.specs.Options.{Analysis}
 use Rattle.fancy_info.specs.declared.info.Info.{Info}
 use Rattle.fancy_info.specs.Infos.{info_tree}
 use Rattle.fancy_nfa_laws.specs.NfaStates as plain
-use Rattle.fancy_nfa_laws.specs.NfaCode.{NfaCode, branch, branches, in_sequence}
+use Rattle.fancy_nfa_laws.specs.NfaCode.{NfaCode, branch, branches, in_sequence, laid, each_laid}
 use Rattle.fancy_nfa.specs.declared.layout.Layout.{Layout}
 use Rattle.fancy_nfa.specs.ClassTexts.{texts_of, texts_in, AreClasses}
 use Rattle.fancy_nfa.specs.Shapes.{branch_choice, ended_by_jump, with_jumps}
-use Rattle.fancy_nfa.specs.Layouts.{states_in, Replaces, Adds, laid_joined, each_laid_joined}
+use Rattle.fancy_nfa.specs.Layouts.{states_in, Replaces, Adds}
 use Rattle.fancy_nfa.specs.Neighbours.{trees_of}
 use Rattle.fancy_info.proofs.Children.{rest_at}
 use Rattle.fancy_nfa.proofs.Laid.{adds_then, same_states, with_jumps_last}
 use Rattle.fancy_nfa.proofs.Texts.{texts_more, classes_more}
 
-pub each_length : (j : Bool) (w : Tree) (is : List Info) → length (each_laid_joined j w (trees_of is)) ≡ length is
-each_length j w [] = refl
-each_length j w (i ∷ is) = ap suc (each_length j w is)
+pub each_length : (w : Tree) (is : List Info) → length (each_laid w (trees_of is)) ≡ length is
+each_length w [] = refl
+each_length w (i ∷ is) = ap suc (each_length w is)
 
 -- ---- a sequence
 
-module _ (j : Bool) (a : Analysis) where
+module _ (a : Analysis) where
   -- these nodes are added one after the other
   abbrev pub AddsEach : List Info → Layout → Layout → Type 0
-  AddsEach is s t = Adds (in_sequence (each_laid_joined j a.tree (trees_of is))) (texts_in (trees_of is)) s t
+  AddsEach is s t = Adds (in_sequence (each_laid a.tree (trees_of is))) (texts_in (trees_of is)) s t
 
   pub sequence_step : (l : List Info) (i : ℕ) (x : Info) → i < length l → x ≡ get_or l i x → (s t u : Layout) →
-      Adds (laid_joined j a.tree (info_tree x)) (texts_of (info_tree x)) s t → AddsEach (drop (i + 1) l) t u → AddsEach (drop i l) s u
+      Adds (laid a.tree (info_tree x)) (texts_of (info_tree x)) s t → AddsEach (drop (i + 1) l) t u → AddsEach (drop i l) s u
   sequence_step l i x lt at s t u h g =
       let rest = drop (i + 1) l in
       subst (λ m. AddsEach m s u) (sym (rest_at l i x lt at))
-      (adds_then (laid_joined j a.tree (info_tree x)) (in_sequence (each_laid_joined j a.tree (trees_of rest))) s t u (texts_of (info_tree x)) (texts_in (trees_of rest))
+      (adds_then (laid a.tree (info_tree x)) (in_sequence (each_laid a.tree (trees_of rest))) s t u (texts_of (info_tree x)) (texts_in (trees_of rest))
       (texts_in (trees_of (x ∷ rest))) (λ inner casei. texts_more inner casei (info_tree x) (trees_of rest)) h g)
 
   none_left : (s : Layout) → AddsEach [] s s
@@ -109,30 +109,30 @@ module _ (is_first : Bool) (p q : List plain.NfaState) (c b : NfaCode) (jump : �
       with_jumps_last js jump (length all) all ∙ ap (with_jumps js (length all)) branch_patched
       ∙ ap (λ n. with_jumps js n (p ++ branch (branch_choice is_first) c b (length p))) long
 
-module _ (j : Bool) (a : Analysis) where
+module _ (a : Analysis) where
   -- the states once these branches are added, whose jumps to the end have no target yet
   abbrev pub with_branches : Layout → Bool → List Info → List plain.NfaState
   with_branches s is_first is =
-      states_in s ++ branches (branch_choice is_first) (each_laid_joined j a.tree (trees_of is)) (length (states_in s))
+      states_in s ++ branches (branch_choice is_first) (each_laid a.tree (trees_of is)) (length (states_in s))
 
   module _ (l : List Info) (i : ℕ) (x : Info) (lt : i < length l) (at : x ≡ get_or l i x) (is_first : Bool) (s t : Layout) where
     abbrev rest : List Info
     rest = drop (i + 1) l
 
-    pub branch_step : i + 1 < length l → Adds (ended_by_jump is_first (laid_joined j a.tree (info_tree x))) (texts_of (info_tree x)) s t → (jump : ℕ) →
+    pub branch_step : i + 1 < length l → Adds (ended_by_jump is_first (laid a.tree (info_tree x))) (texts_of (info_tree x)) s t → (jump : ℕ) →
         jump + 1 ≡ length (states_in t) → (js : List ℕ) →
         with_jumps (js ++ jump ∷ []) (length (with_branches t false rest)) (with_branches t false rest)
         ≡ with_jumps js (length (with_branches s is_first (drop i l))) (with_branches s is_first (drop i l))
     branch_step left h jump end js =
-        let cs = each_laid_joined j a.tree (trees_of rest) in
-        let more : 0 < length cs = omega (arith, each_length j a.tree rest, length-drop (i + 1) l) in
-        branch_jumps is_first (states_in s) (states_in t) (laid_joined j a.tree (info_tree x)) (branches plain.BranchSplit cs) jump h.added.states end js
+        let cs = each_laid a.tree (trees_of rest) in
+        let more : 0 < length cs = omega (arith, each_length a.tree rest, length-drop (i + 1) l) in
+        branch_jumps is_first (states_in s) (states_in t) (laid a.tree (info_tree x)) (branches plain.BranchSplit cs) jump h.added.states end js
         ∙ ap (λ (c : NfaCode). with_jumps js (length (states_in s ++ c (length (states_in s)))) (states_in s ++ c (length (states_in s))))
-        (sym (branches_more (branch_choice is_first) (laid_joined j a.tree (info_tree x)) cs more))
+        (sym (branches_more (branch_choice is_first) (laid a.tree (info_tree x)) cs more))
         ∙ ap (λ m. with_jumps js (length (with_branches s is_first m)) (with_branches s is_first m)) (sym (rest_at l i x lt at))
 
     -- the last branch is added as it is
-    pub branch_end : length l ≤ i + 1 → Adds (laid_joined j a.tree (info_tree x)) (texts_of (info_tree x)) s t → with_branches s is_first (drop i l) ≡ states_in t
+    pub branch_end : length l ≤ i + 1 → Adds (laid a.tree (info_tree x)) (texts_of (info_tree x)) s t → with_branches s is_first (drop i l) ≡ states_in t
     branch_end end h =
         ap (with_branches s is_first) (rest_at l i x lt at ∙ ap (λ m. x ∷ m) (drop_all (i + 1) l end)) ∙ sym h.added.states
 

@@ -1,9 +1,9 @@
 -- A search whose states are all such as lead on to each other alone, where no such characters stand, finds no way.
-use Rattle.std.proofs.Common.{◌≡◌, ◌<◌, ◌≤◌, ◌+◌, ◌∷◌, ◌++◌, [], ℕ, zero, suc, Bool, true, false, ◌&&◌, ◌||◌, not, List, Option, Some, None, if◌then◌else◌, ◌==◌, nat_le, nat_lt, slice_get, length, map, drop, option_map, inl, inr, arith, refl, sym, ap, ap₂, ◌∙◌, subst, true≢false, add-one}
+use Rattle.std.proofs.Common.{◌≡◌, ◌<◌, ◌≤◌, ◌+◌, ◌∷◌, ◌++◌, [], ℕ, zero, suc, Bool, true, false, ◌&&◌, ◌||◌, ◌⊎◌, not, min, List, Option, Some, None, if◌then◌else◌, ◌==◌, nat_le, nat_lt, slice_get, length, map, drop, option_map, inl, inr, arith, refl, sym, ap, ap₂, ◌∙◌, subst, true≢false, add-one}
 use Rattle.std.specs.Prelude.{slice_index_or}
-use Rattle.std.specs.Char.{len_utf8}
+use Rattle.std.specs.Char.{IsScalar, len_utf8}
 use Rattle.std.specs.Option.{option_and_then}
-use Rattle.std.proofs.lemmas.Bool.{cases_lt, cond-true, cond-false, eqb-true, leb-true, ltb-true}
+use Rattle.std.proofs.lemmas.Bool.{cases_lt, eqb-true, leb-true, ltb-true}
 use Rattle.std.proofs.lemmas.Str.{len_utf8_ascii}
 use Rattle.std.proofs.lemmas.Bool.Decides.{nat_tests}
 use Rattle.std.proofs.lemmas.Option.{slice_get-map, slice_get_past}
@@ -18,7 +18,9 @@ use Rattle.fancy_nfa.specs.declared.nfa_state.NfaState as code
 use Rattle.fancy_nfa.specs.declared.nfa_state.NfaState.TheVariants as variant
 use Rattle.fancy_nfa.specs.declared.nfa_state.CharTest as code_test
 use Rattle.fancy_nfa.specs.Views.{state_of}
-use Rattle.fancy_nfa.specs.FirstSets.{AreFirstSets, AreLevels, IsLevel, IsWithin, covers, counter_loop_within, is_begun_by, is_over, is_past, is_short, steps_within, may_begin, TakesAmong}
+use Rattle.fancy_characters.specs.Others.{LacksOthers}
+use Rattle.fancy_characters.proofs.OthersLaws.{lacks_here}
+use Rattle.fancy_nfa.specs.FirstSets.{AreFirstSets, AreLevels, IsLevel, IsWithin, covers, counter_loop_within, has_character, is_begun_by, is_over, is_past, is_short, steps_within, may_begin, TakesAmong}
 use Rattle.fancy_nfa.proofs.KeptLaws.{StepKeeps, finds_none}
 
 both : (a b : Bool) → (a && b) ≡ true → (a ≡ true) × (b ≡ true)
@@ -182,13 +184,22 @@ module _ (text : List ℕ) (unicode : Bool) (states : List NfaState) (P : NfaCon
         by_past (Some (s.place + 1)) (skip_ascii text (passes text unicode test) s.place b at small true e)
         (behind (passes_alike text unicode test b ∙ e))
 
-    pub takes_inside : (o : Option ℕ) → slice_get text s.place ≡ o →
-        ((b : ℕ) → o ≡ Some b → (b < 128) × (passes [] unicode test b ≡ true → P (record (forward s) { place = s.place + 1 }))) →
-        StepInside (goes_past s past)
+    -- one beyond ASCII stands here, and none such passes
+    by_others : (b : ℕ) → slice_get text s.place ≡ Some b → 128 ≤ b → LacksOthers (passes text unicode test) → StepInside (goes_past s past)
+    by_others b at far lacks = by_past None (lacks_here text (passes text unicode test) s.place b at far lacks) tt
+
+    -- what is to be known of a byte that stands here
+    abbrev pub Inside_behind : ℕ → Type 0
+    Inside_behind b =
+        ((b < 128) × (passes [] unicode test b ≡ true → P (record (forward s) { place = s.place + 1 })))
+        ⊎ ((128 ≤ b) × LacksOthers (passes text unicode test))
+
+    pub takes_inside : (o : Option ℕ) → slice_get text s.place ≡ o → ((b : ℕ) → o ≡ Some b → Inside_behind b) → StepInside (goes_past s past)
     takes_inside None at behind = by_past None (past_end text (passes text unicode test) s.place at) tt
-    takes_inside (Some b) at behind =
-        let h = behind b refl in
-        by_passed b at h.0 (passes text unicode test b) refl h.1
+    takes_inside (Some b) at behind = elim (behind b refl) [
+      | inl h ↦ by_passed b at h.0 (passes text unicode test b) refl h.1
+      | inr h ↦ by_others b at h.0 h.1
+    ]
 
   module _ (s : NfaConfig) (reached : List ℕ) (here : IsReached (slice_index_or reached s.at 0) s.counters)
       (keeps : (t : NfaConfig) → t.place ≡ s.place → IsReached (slice_index_or reached t.at 0) t.counters → P t) where
@@ -261,14 +272,42 @@ module _ (text : List ℕ) (unicode : Bool) (states : List NfaState) (P : NfaCon
 
 -- ---- where a search stands
 
--- an ASCII character stands there that is none of these, or the rest does not follow it
-pub begun_by_none : (ascii : List Bool) (rest : Bool) (b : ℕ) → is_begun_by ascii rest (Some b) ≡ false →
-    (b < 128) × ((slice_index_or ascii b false && rest) ≡ false)
-begun_by_none ascii rest b none = go (nat_lt b 128) refl
+small_character : (set : List Bool) (c : ℕ) → c < 128 → has_character set c ≡ slice_index_or set c false
+small_character set c small = ap (λ i. slice_index_or set i false) (let same : min c 128 ≡ c = omega (arith, small) in same)
+
+pub far_character : (set : List Bool) (c : ℕ) → 128 ≤ c → has_character set c ≡ slice_index_or set 128 false
+far_character set c far = ap (λ i. slice_index_or set i false) (let same : min c 128 ≡ 128 = omega (arith, far) in same)
+
+-- an ASCII character stands there that is none of these, or the rest does not follow it, or another one, and none such is
+-- among these
+pub begun_by_none : (set : List Bool) (rest : Bool) (b : ℕ) → is_begun_by set rest (Some b) ≡ false →
+    ((b < 128) × ((slice_index_or set b false && rest) ≡ false)) ⊎ ((128 ≤ b) × (slice_index_or set 128 false ≡ false))
+begun_by_none set rest b none = elim (cases_lt b 128) [
+  | inl small ↦
+      let no : nat_le 128 b ≡ false = grind (arith, nat_tests, small) in
+      inl (small, sym (ap₂ (λ h n. h && (n || rest)) (small_character set b small) no) ∙ none)
+  | inr far ↦
+      let yes : nat_le 128 b ≡ true = grind (arith, nat_tests, far) in
+      let beyond : 128 ≤ b = omega (arith, far) in
+      inr (beyond, sym (ap₂ (λ h n. h && (n || rest)) (far_character set b beyond) yes ∙ and_true (slice_index_or set 128 false)) ∙ none)
+]
   where
-    go : (small : Bool) → nat_lt b 128 ≡ small → (b < 128) × ((slice_index_or ascii b false && rest) ≡ false)
-    go true e = (ltb-true b 128 e, sym (cond-true (nat_lt b 128) _ _ e) ∙ none)
-    go false e = absurd (true≢false (sym (cond-false (nat_lt b 128) _ _ e) ∙ none))
+    and_true : (a : Bool) → (a && true) ≡ a
+    and_true true = refl
+    and_true false = refl
+
+-- no character beyond ASCII passes, if the set has none and has each that passes
+others_lack : (text : List ℕ) (unicode : Bool) (set : List Bool) (test : plain.CharTest) → TakesAmong unicode set (plain.Character test) →
+    slice_index_or set 128 false ≡ false → LacksOthers (passes text unicode test)
+others_lack text unicode set test among out c scalar far = go (passes text unicode test c) refl
+  where
+    go : (v : Bool) → passes text unicode test c ≡ v → v ≡ false
+    go false e = refl
+    go true e =
+        absurd (true≢false (sym (among c scalar (passes_alike text unicode test c ∙ e)) ∙ far_character set c far ∙ out))
+
+ascii_is_scalar : (c : ℕ) → c < 128 → IsScalar c
+ascii_is_scalar c small = grind (arith, nat_tests, small)
 
 module _ (text : List ℕ) (unicode : Bool) (states : List NfaState) where
   -- at a state of some level, from which on no such characters stand
@@ -314,14 +353,18 @@ module _ (text : List ℕ) (unicode : Bool) (states : List NfaState) where
     by_state p h =
         steps_inside text unicode states Inside s reached here keeps after p h.0
         (λ test is. takes_inside text unicode states Inside s test (slice_get text s.place) refl
-        (λ b at.
-        let none = begun_by_none ascii (may_begin levels text (s.place + 1)) b (ap (is_begun_by ascii (may_begin levels text (s.place + 1))) (sym at) ∙ out) in (
-          none.0,
-          λ passed.
-              inside_behind s after last ascii levels (slice_index_or reached s.at 0) more here
-              (subst (λ q. steps_within reached after s.at (slice_index_or reached s.at 0) q ≡ true) is h.0) b none.1
-              (subst (TakesAmong unicode ascii) is h.1 b none.0 passed),
-        )))
+        (λ b at. let takes = subst (TakesAmong unicode ascii) is h.1 in
+        elim (begun_by_none ascii (may_begin levels text (s.place + 1)) b (ap (is_begun_by ascii (may_begin levels text (s.place + 1))) (sym at) ∙ out)) [
+          | inl none ↦
+              inl (
+                none.0,
+                λ passed.
+                    inside_behind s after last ascii levels (slice_index_or reached s.at 0) more here
+                    (subst (λ q. steps_within reached after s.at (slice_index_or reached s.at 0) q ≡ true) is h.0) b none.1
+                    (sym (small_character ascii b none.0) ∙ takes b (ascii_is_scalar b none.0) passed),
+              )
+          | inr none ↦ inr (none.0, others_lack text unicode ascii test takes none.1)
+        ]))
 
     step_inside : (o : Option NfaState) → IsWithin unicode reached ascii after s.at o → StepKeeps Inside (step_at text unicode o s)
     step_inside None h = tt
@@ -364,7 +407,7 @@ module _ (unicode : Bool) (states : List code.NfaState) (reached after : List �
 
   among_more : (ascii more : List Bool) → ((c : ℕ) → slice_index_or ascii c false ≡ true → slice_index_or more c false ≡ true) →
       (p : NfaState) → TakesAmong unicode ascii p → TakesAmong unicode more p
-  among_more ascii more kept (plain.Character test) h = λ c small e. kept c (h c small e)
+  among_more ascii more kept (plain.Character test) h = λ c scalar e. kept (min c 128) (h c scalar e)
   among_more ascii more kept p h = tt
 
   pub within_more : (ascii more : List Bool) (n : ℕ) (q : code.NfaState) → n < length states → q ≡ slice_index_or states n q →
@@ -413,16 +456,16 @@ no_take unicode ascii p apart = tt
 
 -- ---- the characters at the place
 
-begun_small : (ascii : List Bool) (rest : Bool) (b : ℕ) → b < 128 → is_begun_by ascii rest (Some b) ≡ (slice_index_or ascii b false && rest)
-begun_small ascii rest b h = cond-true (nat_lt b 128) _ _ small
+begun_small : (set : List Bool) (rest : Bool) (b : ℕ) → b < 128 → is_begun_by set rest (Some b) ≡ (has_character set b && rest)
+begun_small set rest b h = ap (λ n. has_character set b && (n || rest)) small
   where
-    small : nat_lt b 128 ≡ true
+    small : nat_le 128 b ≡ false
     small = grind (arith, nat_tests, h)
 
-begun_other : (ascii : List Bool) (rest : Bool) (b : ℕ) → 128 ≤ b → is_begun_by ascii rest (Some b) ≡ true
-begun_other ascii rest b h = cond-false (nat_lt b 128) _ _ other
+begun_other : (set : List Bool) (rest : Bool) (b : ℕ) → 128 ≤ b → has_character set b ≡ true → is_begun_by set rest (Some b) ≡ true
+begun_other set rest b h has = ap₂ (λ a n. a && (n || rest)) has other
   where
-    other : nat_lt b 128 ≡ false
+    other : nat_le 128 b ≡ true
     other = grind (arith, nat_tests, h)
 
 -- the first of the levels that are left
@@ -445,11 +488,19 @@ module _ (levels : List (List Bool)) (text : List ℕ) (n at : ℕ) (more : n < 
   pub level_at_end : length text ≤ at → may_begin (drop n levels) text at ≡ false
   level_at_end over = asks_level ∙ ap (is_begun_by level rest) (slice_get_past text at over)
 
-  pub level_passed : at < length text → 128 ≤ slice_index_or text at 0 → may_begin (drop n levels) text at ≡ true
-  level_passed inside other =
-      asks_level ∙ ap (is_begun_by level rest) (at_index text at 0 inside) ∙ begun_other level rest (slice_index_or text at 0) other
+  -- the byte at the place is none of the level's
+  pub level_lacks : at < length text → has_character level (slice_index_or text at 0) ≡ false → may_begin (drop n levels) text at ≡ false
+  level_lacks inside lacks =
+      asks_level ∙ ap (is_begun_by level rest) (at_index text at 0 inside)
+      ∙ ap (λ a. a && (nat_le 128 (slice_index_or text at 0) || rest)) lacks
 
-  pub level_asked : at < length text → slice_index_or text at 0 < 128 →
-      may_begin (drop n levels) text at ≡ (slice_index_or level (slice_index_or text at 0) false && rest)
-  level_asked inside small =
+  pub level_passed : at < length text → 128 ≤ slice_index_or text at 0 → has_character level (slice_index_or text at 0) ≡ true →
+      may_begin (drop n levels) text at ≡ true
+  level_passed inside other has =
+      asks_level ∙ ap (is_begun_by level rest) (at_index text at 0 inside) ∙ begun_other level rest (slice_index_or text at 0) other has
+
+  pub level_asked : at < length text → slice_index_or text at 0 < 128 → has_character level (slice_index_or text at 0) ≡ true →
+      may_begin (drop n levels) text at ≡ rest
+  level_asked inside small has =
       asks_level ∙ ap (is_begun_by level rest) (at_index text at 0 inside) ∙ begun_small level rest (slice_index_or text at 0) small
+      ∙ ap (λ a. a && rest) has

@@ -1,5 +1,5 @@
 -- From the end of a search to what the first way answers.
-use Rattle.std.proofs.Common.{◌≡◌, ◌<◌, ◌≤◌, ◌+◌, ◌&&◌, [], ◌∷◌, slice_get, slice_index_or, true, nat_lt, if◌then◌else◌, ℕ, zero, suc, Bool, false, List, length, map, take, Option, Some, None, Result, Ok, Err, IfOk, IsTrue, option_map, refl, sym, arith, ap, ◌∙◌, subst}
+use Rattle.std.proofs.Common.{◌≡◌, ◌<◌, ◌≤◌, ◌+◌, ◌&&◌, [], ◌∷◌, ◌||◌, slice_get, true, nat_le, ℕ, zero, suc, Bool, false, List, length, map, take, Option, Some, None, Result, Ok, Err, IfOk, IsTrue, option_map, refl, sym, arith, ap, ◌∙◌, subst}
 use Rattle.std.proofs.lemmas.Bool.Decides.{nat_tests}
 use Rattle.std.proofs.lemmas.List.{take_all}
 use denote.Bor.{Bor}
@@ -31,7 +31,7 @@ use Rattle.fancy_backtrack.specs.Paths.{closed_after}
 use Rattle.fancy_backtrack.specs.BacktrackStack.{choices_of}
 use Rattle.fancy_backtrack.specs.Memos.{AreKept, HaveFailed, IsHere, IsSearch, Continuation, saturated}
 use Rattle.fancy_nfa.specs.Searches.{EndsAs, continuation_of}
-use Rattle.fancy_nfa.specs.FirstSets.{is_begun_by, may_begin}
+use Rattle.fancy_nfa.specs.FirstSets.{has_character, is_begun_by, may_begin}
 use Rattle.fancy_nfa.specs.Views.{state_of}
 use Rattle.fancy_nfa.specs.Ways.{CountsVisits, HasNoWayAt, IsFirstWay, IsMemoOf, IsSeenAs, listed}
 
@@ -258,13 +258,12 @@ pub no_way_at : (text : List ℕ) (f : Nfa) (place : ℕ) → IsText text → Is
     may_begin f.first_sets.items text place ≡ false → HasNoWayAt text f place
 no_way_at text f place is_text at out = no_way_found text f place is_text at (f.begin text place out)
 
-pub excluded_byte : (levels : List (List Bool)) (ascii : List Bool) (byte : ℕ) → slice_get levels 0 ≡ Some ascii → byte < 128 →
-    slice_index_or ascii byte false ≡ false → (text : List ℕ) (place : ℕ) → slice_get text place ≡ Some byte →
+pub excluded_byte : (levels : List (List Bool)) (set : List Bool) (byte : ℕ) → slice_get levels 0 ≡ Some set →
+    has_character set byte ≡ false → (text : List ℕ) (place : ℕ) → slice_get text place ≡ Some byte →
     may_begin levels text place ≡ false
-excluded_byte [] ascii byte is small out text place here = cc
-excluded_byte (level ∷ levels) ascii byte is small out text place here =
-    let is_ascii : nat_lt byte 128 ≡ true = grind (arith, nat_tests) in
+excluded_byte [] set byte is out text place here = cc
+excluded_byte (level ∷ levels) set byte is out text place here =
     let rest : Bool = may_begin levels text (place + 1) in
-    let same : level ≡ ascii = cc in
-    ap (is_begun_by level rest) here ∙ ap (λ v. if v then slice_index_or level byte false && rest else true) is_ascii
-    ∙ ap (λ l. slice_index_or l byte false && rest) same ∙ ap (λ b. b && rest) out
+    let same : level ≡ set = cc in
+    ap (is_begun_by level rest) here ∙ ap (λ l. has_character l byte && (nat_le 128 byte || rest)) same
+    ∙ ap (λ b. b && (nat_le 128 byte || rest)) out

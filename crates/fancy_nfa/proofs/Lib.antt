@@ -13,6 +13,4 @@ pub mod KeptLaws
 pub mod FirstSetLaws
 pub mod GroupSpansLaws
 pub mod OnePassLaws
-pub mod CountedLaws
 pub mod ThreadsLaws
-pub mod JoinedLayout

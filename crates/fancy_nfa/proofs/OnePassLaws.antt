@@ -1,5 +1,5 @@
 -- Ways that a search comes to without taking a choice back.
-use Rattle.std.proofs.Common.{◌≡◌, ◌≤◌, ◌<◌, ◌+◌, ◌-◌, ◌&&◌, ◌∷◌, ℕ, zero, suc, true≢false, Bool, true, false, List, [], Option, Some, None, Result, Ok, Err, IfOk, IsTrue, if◌then◌else◌, option_map, map, slice_get, slice_index_or, refl, sym, ap, ap₂, ◌∙◌, subst, arith}
+use Rattle.std.proofs.Common.{◌≡◌, ◌≤◌, ◌<◌, ◌+◌, ◌-◌, ◌&&◌, ◌∷◌, ℕ, zero, suc, true≢false, Bool, true, false, List, [], Option, Some, None, Result, Ok, Err, IfOk, IsTrue, if◌then◌else◌, option_map, map, slice_get, refl, sym, ap, ap₂, ◌∙◌, subst, arith}
 use Rattle.std.proofs.lemmas.Bool.{cond-false}
 use Rattle.std.proofs.lemmas.Str.{len_utf8_bounds}
 use denote.Bor.{Bor}
@@ -26,14 +26,12 @@ use Rattle.fancy_nfa.specs.declared.nfa.Nfa.{Nfa}
 use Rattle.fancy_nfa.specs.AsciiRuns.{AllPass}
 use Rattle.fancy_nfa.specs.Runs.{FailsFrom, IsBody, Passes}
 use Rattle.fancy_nfa.specs.Searches.{after_steps_of, next_of}
-use Rattle.fancy_nfa.specs.OnePass.{AreBranches, AreFails, EndsOnePass, EndsOnePassWith, Finds, IsBlank, IsChoice, IsOnePass, IsOnePassWay, IsSeenWay, Loses, RunsOn, RunsPast, Succeeds, Walks, closed_by, config_at, opened_at}
-use Rattle.fancy_nfa.specs.declared.counted_ways.Passed.{Passed}
-use Rattle.fancy_nfa.specs.declared.counted_ways.Passed.TheVariants as passed
+use Rattle.fancy_nfa.specs.OnePass.{AreBranches, AreFails, ComesPast, EndsOnePass, EndsOnePassWith, Finds, IsBlank, IsChoice, IsOnePass, IsOnePassWay, IsSeenWay, Loses, RunsOn, RunsPast, Succeeds, Walks, closed_by, config_at, opened_at}
+use Rattle.fancy_nfa.specs.declared.one_pass.Passed.{Passed}
+use Rattle.fancy_nfa.specs.declared.one_pass.Passed.TheVariants as passed
 use Rattle.fancy_nfa.specs.declared.group_spans.GroupSpans.{GroupSpans}
 use Rattle.fancy_nfa.specs.GroupSpans.{AreGroupsOf, spans_in}
-use Rattle.fancy_nfa.specs.CountedWays.{ComesPast}
 use Rattle.fancy_nfa.specs.Nfas.{IsNfaOf}
-use Rattle.fancy_nfa.specs.Ways.{HasNoWayAt}
 use Rattle.fancy_nfa.specs.Views.{state_of, test_of}
 use Rattle.fancy_nfa.proofs.BackLaws.{steps_then}
 use Rattle.fancy_nfa.proofs.FirstWayLaws.{finds, same_end, way_at}
@@ -374,25 +372,6 @@ module _ (searcher : Searcher) where
         (
           x.1.0,
           steps_then searcher 1 x.0 (TakesUp s f) (TakesUp (goes_to to s) f) (next_there searcher (nfa_state.Jump to) (at_state at) s (sym is) there f) ∙ x.1.1,
-        ),
-      )
-
-  -- what fails behind a character that passes
-  pub behind_fails : (test : CharTest) (at place : ℕ) → slice_get (searcher.states).now at ≡ Some (nfa_state.Character test) →
-      Passes searcher test place → FailsFrom searcher (at + 1) (place + 1) → FailsFrom searcher at place
-  behind_fails test at place there pass fails s f is here =
-      let on : plain.NfaConfig = record (plain.forward s) { place = place + 1 } in
-      let v : Search = record f { visits = f.visits + 1 } in
-      let past = ap (past_char (searcher.text).now (Test test)) here ∙ pass in
-      let x = fails on v (ap (λ i. i + 1) is) refl in
-      let visits : f.visits + 1 + x.1.0 ≡ f.visits + (1 + x.1.0) = omega arith in (
-        1 + x.0,
-        (
-          1 + x.1.0,
-          steps_then searcher 1 x.0 (TakesUp s f) (TakesUp on v)
-              (next_there searcher (nfa_state.Character test) (at_state at) s (sym is) there f
-              ∙ ap (λ o. plain.next_by (plain.goes_past s o) (Some (states.Character (test_of test))) s f) past) ∙ x.1.1
-              ∙ ap (λ n. TakesBack (record f { visits = n })) visits,
         ),
       )
 

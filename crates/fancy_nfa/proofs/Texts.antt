@@ -25,11 +25,11 @@ IsNoClass (Delegate inner casei) = ⊥
 IsNoClass e = Unit {0}
 
 module _ (inner : List ℕ) (casei : Bool) where
-  pub texts_below : {e : Tree} → HasClass inner casei e → IsNoClass e → texts_in (written_parts e) inner casei
+  texts_below : {e : Tree} → HasClass inner casei e → IsNoClass e → texts_in (written_parts e) inner casei
   texts_below itself n = absurd n
   texts_below (below {c = c} i h) n = (c, (i, h))
 
-  pub texts_above : (e : Tree) → texts_in (written_parts e) inner casei → HasClass inner casei e
+  texts_above : (e : Tree) → texts_in (written_parts e) inner casei → HasClass inner casei e
   texts_above e h = below h.1.0 h.1.1
 
   among_more : (e : Tree) (es : Trees) (d : Tree) → IsAmong d (more e es) → HasClass inner casei d → HasClass inner casei e ⊎ texts_in es inner casei
@@ -43,7 +43,7 @@ module _ (inner : List ℕ) (casei : Bool) where
   among_one e d here h = h
   among_one e d (there i) h = elim i [ ]
 
-  pub one_text : (e : Tree) → texts_in (more e none) inner casei → HasClass inner casei e
+  one_text : (e : Tree) → texts_in (more e none) inner casei → HasClass inner casei e
   one_text e h = among_one e h.0 h.1.0 h.1.1
 
   pub texts_at : (l : List Info) (i : ℕ) (x : Info) → i < length l → x ≡ get_or l i x → HasClass inner casei (info_tree x) → texts_in (trees_of l) inner casei

@@ -1,19 +1,24 @@
 -- With which characters a way can begin.
-use Rattle.std.specs.Prelude.{◌≡◌, ℕ, ◌+◌, ◌<◌, Bool, true, false, ◌&&◌, ◌||◌, List, [], ◌∷◌, Option, Some, None, if◌then◌else◌, ◌==◌, nat_le, nat_lt, slice_get, slice_index_or}
+use Rattle.std.specs.Prelude.{◌≡◌, ℕ, ◌+◌, ◌<◌, Bool, true, false, ◌&&◌, ◌||◌, min, List, [], ◌∷◌, Option, Some, None, if◌then◌else◌, ◌==◌, nat_le, nat_lt, slice_get, slice_index_or}
+use Rattle.std.specs.Char.{IsScalar}
 use Rattle.fancy_nfa_laws.specs.NfaStates as plain
 use Rattle.fancy_nfa_laws.specs.NfaStates.{Loop, NfaState}
 use Rattle.fancy_nfa_laws.specs.NfaSearch.{Pair, NfaConfig, Search, Ends, passes}
 use Rattle.fancy_nfa_laws.specs.FirstWays.{searched}
 
--- an ASCII character that is among these, where the rest may follow, or any other character
-abbrev pub is_begun_by : (ascii : List Bool) → (rest : Bool) → Option ℕ → Bool
-is_begun_by ascii rest None = false
-is_begun_by ascii rest (Some byte) = if nat_lt byte 128 then slice_index_or ascii byte false && rest else true
+-- whether the set has the character, or the entry that all characters beyond ASCII share
+abbrev pub has_character : (set : List Bool) → ℕ → Bool
+has_character set c = slice_index_or set (min c 128) false
 
--- Such characters stand at the place and behind it, level by level. Behind one that is not of ASCII any may stand.
+-- a byte of one of these characters, where the rest may follow if it is of ASCII
+abbrev pub is_begun_by : (set : List Bool) → (rest : Bool) → Option ℕ → Bool
+is_begun_by set rest None = false
+is_begun_by set rest (Some byte) = has_character set byte && (nat_le 128 byte || rest)
+
+-- Such characters stand at the place and behind it, level by level. Behind one beyond ASCII any may stand.
 abbrev pub may_begin : (levels : List (List Bool)) → (text : List ℕ) → (place : ℕ) → Bool
 may_begin [] text place = true
-may_begin (ascii ∷ levels) text place = is_begun_by ascii (may_begin levels text (place + 1)) (slice_get text place)
+may_begin (set ∷ levels) text place = is_begun_by set (may_begin levels text (place + 1)) (slice_get text place)
 
 -- where none stand there, no search finds a way
 abbrev pub AreFirstSets : Bool → List NfaState → (levels : List (List Bool)) → Type 0
@@ -69,26 +74,26 @@ steps_within reached after at counter plain.CounterBegin = covers reached (at + 
 steps_within reached after at counter (plain.CounterLoop loop off) =
     counter_loop_within reached at counter off (is_over loop counter) (is_short loop counter)
 
--- the ASCII characters that pass its test are among these
-abbrev pub TakesAmong : Bool → (ascii : List Bool) → NfaState → Type 0
-TakesAmong unicode ascii (plain.Character test) =
-    (c : ℕ) → c < 128 → passes [] unicode test c ≡ true → slice_index_or ascii c false ≡ true
-TakesAmong unicode ascii p = Unit {0}
+-- the characters that pass its test are among these
+abbrev pub TakesAmong : Bool → (set : List Bool) → NfaState → Type 0
+TakesAmong unicode set (plain.Character test) =
+    (c : ℕ) → IsScalar c → passes [] unicode test c ≡ true → has_character set c ≡ true
+TakesAmong unicode set p = Unit {0}
 
 -- what holds of a state that is reached
-abbrev pub IsWithin : Bool → (reached : List ℕ) → (ascii : List Bool) → (after : List ℕ) → (at : ℕ) → Option NfaState →
+abbrev pub IsWithin : Bool → (reached : List ℕ) → (set : List Bool) → (after : List ℕ) → (at : ℕ) → Option NfaState →
     Type 0
-IsWithin unicode reached ascii after at None = Unit {0}
-IsWithin unicode reached ascii after at (Some p) =
-    (steps_within reached after at (slice_index_or reached at 0) p ≡ true) × TakesAmong unicode ascii p
+IsWithin unicode reached set after at None = Unit {0}
+IsWithin unicode reached set after at (Some p) =
+    (steps_within reached after at (slice_index_or reached at 0) p ≡ true) × TakesAmong unicode set p
 
 -- a search at states that were reached takes these characters alone, and comes to states that were reached after that
-abbrev pub IsLevel : Bool → List NfaState → (reached : List ℕ) → (ascii : List Bool) → (after : List ℕ) → Type 0
-IsLevel unicode states reached ascii after =
-    (at : ℕ) → 0 < slice_index_or reached at 0 → IsWithin unicode reached ascii after at (slice_get states at)
+abbrev pub IsLevel : Bool → List NfaState → (reached : List ℕ) → (set : List Bool) → (after : List ℕ) → Type 0
+IsLevel unicode states reached set after =
+    (at : ℕ) → 0 < slice_index_or reached at 0 → IsWithin unicode reached set after at (slice_get states at)
 
 -- one level after the other, from states that are reached to those that are reached behind the last
 abbrev pub AreLevels : Bool → List NfaState → (reached : List ℕ) → (levels : List (List Bool)) → (last : List ℕ) → Type 0
 AreLevels unicode states reached [] last = reached ≡ last
-AreLevels unicode states reached (ascii ∷ levels) last =
-    (after : List ℕ) × (IsLevel unicode states reached ascii after × AreLevels unicode states after levels last)
+AreLevels unicode states reached (set ∷ levels) last =
+    (after : List ℕ) × (IsLevel unicode states reached set after × AreLevels unicode states after levels last)

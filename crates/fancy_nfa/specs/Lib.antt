@@ -11,5 +11,3 @@ pub mod FirstSets
 pub mod GroupSpans
 pub mod OnePass
 pub mod AsciiRuns
-pub mod CountedWays
-pub mod LoopsInLoops

@@ -1,5 +1,5 @@
 -- Ways that a search comes to without taking a choice back.
-use Rattle.std.specs.Prelude.{◌≡◌, ◌≤◌, ◌<◌, ℕ, Bool, true, false, List, [], ◌∷◌, map, Option, Some, None, slice_get}
+use Rattle.std.specs.Prelude.{◌≡◌, ℕ, Bool, true, false, List, [], ◌∷◌, map, Option, Some, None, slice_get}
 use Rattle.fancy_meaning.specs.Tree.{Tree}
 use Rattle.fancy_meaning.specs.Options.{Analysis}
 use Rattle.fancy_nfa_laws.specs.NfaSearch.{Ends, Fails, Frame, Other, Pair, Search, NfaConfig, TakesBack, TakesUp, Tries, first_config, first_search, goes_to, step_by}
@@ -11,6 +11,8 @@ use Rattle.fancy_nfa.specs.declared.nfa_state.NfaState.TheVariants as nfa_state
 use Rattle.fancy_nfa.specs.declared.search.Searcher.{Searcher}
 use Rattle.fancy_nfa.specs.declared.one_pass.OnePass.{OnePass}
 use Rattle.fancy_nfa.specs.declared.one_pass.OnePass.TheVariants as one_pass
+use Rattle.fancy_nfa.specs.declared.one_pass.Passed.{Passed}
+use Rattle.fancy_nfa.specs.declared.one_pass.Passed.TheVariants as passed
 use Rattle.fancy_nfa.specs.declared.nfa.Nfa.{Nfa}
 use Rattle.fancy_nfa.specs.Runs.{Excludes, FailsFrom, IsBody}
 use Rattle.fancy_nfa.specs.Searches.{after_steps_of}
@@ -81,6 +83,18 @@ Loses t from =
     (f : Search) → IsBlank f →
     (steps : ℕ) × ((g : Search) × ((after_steps_of t steps (TakesUp from f) ≡ TakesBack g)
     × (AreFails f.frames → AreFails g.frames)))
+
+-- what a search that knows of no pair comes to from this state and place, whatever loops and groups are around
+abbrev pub ComesPast : Searcher → (at place : ℕ) → Passed → Type 0
+ComesPast t at place (passed.On next end is_sure) =
+    (s : NfaConfig) → Walks t is_sure (config_at s at place) (config_at s next end)
+ComesPast t at place passed.Ends = (s : NfaConfig) → Succeeds t (config_at s at place)
+ComesPast t at place (passed.Opens next) =
+    (s : NfaConfig) → Walks t true (config_at s at place) (opened_at s next place)
+ComesPast t at place (passed.Closes group next) = (s : NfaConfig) (opened : List ℕ) → s.opened ≡ opened →
+    Walks t true (config_at s at place) (closed_by s group opened next place)
+ComesPast t at place passed.Fails = (s : NfaConfig) → Loses t (config_at s at place)
+ComesPast t at place passed.Unknown = Unit {0}
 
 -- it goes so over a loop over this test, from its head to its head
 abbrev pub RunsOn : Searcher → CharTest → (from to : ℕ) → Type 0

@@ -1,8 +1,8 @@
 -- A loop over one character, many iterations at once.
-use Rattle.std.specs.Prelude.{◌≡◌, ◌≤◌, ◌<◌, ◌+◌, ℕ, Bool, true, false, List, [], ◌∷◌, Some, None, map, slice_get}
+use Rattle.std.specs.Prelude.{◌≡◌, ◌≤◌, ◌<◌, ◌+◌, ℕ, Bool, true, false, List, Some, None, map, slice_get}
 use Rattle.fancy_meaning.specs.Moves.{past_char}
 use Rattle.fancy_nfa_laws.specs.NfaSearch as plain
-use Rattle.fancy_nfa_laws.specs.NfaSearch.{Frame, Other, Fails, Next, Pair, Search, TakesBack, TakesUp, LoopCounter, goes_to, is_counted, pair_of, passes}
+use Rattle.fancy_nfa_laws.specs.NfaSearch.{Next, Pair, Search, TakesBack, TakesUp, is_counted, pair_of, passes}
 use Rattle.fancy_backtrack.specs.declared.trail.NfaConfig.{NfaConfig}
 use Rattle.fancy_nfa.specs.declared.nfa_state.NfaState.{NfaState}
 use Rattle.fancy_nfa.specs.declared.nfa_state.CharTest.{CharTest}
@@ -43,36 +43,17 @@ GoesOn searcher next m here =
     (steps : ℕ) × ((f : Search) × ((t : plain.NfaConfig) × ((after_steps_of searcher steps next ≡ TakesUp t f)
     × IsSearch (continuation_of searcher) m f × IsHere m here t)))
 
--- ---- ways out of a loop that fail at once
+-- ---- tests that fail
 
 -- no character that passes stands at the place
 abbrev pub Excludes : Searcher → CharTest → (place : ℕ) → Type 0
 Excludes t test place = past_char (t.text).now (passes (t.text).now t.unicode (test_of test)) place ≡ None
 
--- a search that takes up this state at this place goes back after some steps with one state counted, and nothing is
--- memoized or kept
-abbrev pub FailsAtOnce : Searcher → (at place : ℕ) → Type 0
-FailsAtOnce t at place =
-    (s : plain.NfaConfig) (f : Search) → s.at ≡ at → s.place ≡ place →
-    (steps : ℕ) × (after_steps_of t steps (TakesUp s f) ≡ TakesBack (record f { visits = f.visits + 1 }))
-
--- as `FailsAtOnce`, with any number of states counted
+-- a search that takes up this state at this place goes back after some steps, and nothing is memoized or kept
 abbrev pub FailsFrom : Searcher → (at place : ℕ) → Type 0
 FailsFrom t at place =
     (s : plain.NfaConfig) (f : Search) → s.at ≡ at → s.place ≡ place →
     (steps : ℕ) × ((n : ℕ) × (after_steps_of t steps (TakesUp s f) ≡ TakesBack (record f { visits = f.visits + n })))
-
--- where the state is the head of a loop, its other way on fails at once
-abbrev pub IsLostAt : Searcher → (at place : ℕ) → Type 0
-IsLostAt t at place =
-    (s one other : plain.NfaConfig) (is_memoized : Bool) → s.at ≡ at → s.place ≡ place →
-    continuation_of t s ≡ plain.Tries is_memoized one (other ∷ []) →
-    (is_memoized ≡ true) × (other.place ≡ place) × FailsAtOnce t other.at place
-
--- how many states are counted where a choice has no way left: one of its other way, if that was untried
-abbrev pub lost_visits : (is_untried : Bool) → ℕ
-lost_visits true = 1
-lost_visits false = 0
 
 -- ---- tests one by one
 

@@ -1,11 +1,9 @@
 -- The parts of which states are made.
-use Rattle.std.specs.Prelude.{◌≡◌, ℕ, ◌+◌, Bool, true, false, List, [], ◌∷◌, slice_set, Option, Some, None}
+use Rattle.std.specs.Prelude.{ℕ, ◌+◌, Bool, true, false, List, [], ◌∷◌, slice_set, Option, Some, None}
 use Rattle.fancy_meaning.specs.Constructs as plain_form
 use Rattle.fancy_nfa_laws.specs.NfaStates as plain
 use Rattle.fancy_nfa_laws.specs.NfaCode.{NfaCode, ◌>>◌, one, headed}
 use Rattle.fancy_expr.specs.Views.{bound_of}
-use Rattle.fancy_joining.specs.JoinedLoops as joining
-use Rattle.fancy_nfa.specs.declared.layout.Bounds.{Bounds}
 use Rattle.fancy_nfa.specs.declared.layout.LoopForm.{LoopForm}
 use Rattle.fancy_nfa.specs.declared.layout.LoopForm.TheVariants as form
 
@@ -34,12 +32,3 @@ ended_by_jump is_first body =
 abbrev pub with_jumps : List ℕ → ℕ → List plain.NfaState → List plain.NfaState
 with_jumps [] end states = states
 with_jumps (j ∷ js) end states = slice_set (with_jumps js end states) j (plain.Jump end)
-
-abbrev pub bounds_of : Bounds → joining.Bounds
-bounds_of b = record { lo = b.lo; hi = bound_of b.hi; greedy = b.greedy }
-
--- the bounds of two loops as one, where they are joined
-abbrev pub IsJoined : (are_joined : Bool) → ℕ → Option ℕ → Bool → Option Bounds → Type 0
-IsJoined are_joined lo hi greedy None = are_joined ≡ false
-IsJoined are_joined lo hi greedy (Some b) =
-    (are_joined ≡ true) × (lo ≡ b.lo) × (hi ≡ bound_of b.hi) × (greedy ≡ b.greedy)

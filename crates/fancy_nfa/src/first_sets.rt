@@ -1,20 +1,26 @@
 //! With which characters a way can begin: found by the states that a search comes to before each of its first ones.
+//!
+//! A set has an entry for each ASCII character, and one for all others together.
 
-ghost use Rattle.std.specs.Prelude.{◌≡◌, ◌&&◌, ℕ, List, ◌+◌, ◌<◌, [], true, false, map, slice_get, slice_index_or, Some, IfOk, IfSome};
+ghost use Rattle.std.specs.Prelude.{◌≡◌, ◌&&◌, ℕ, List, ◌+◌, ◌<◌, ◌≤◌, [], true, false, map, slice_get, slice_index_or, Some, IfOk, IfSome};
+ghost use Rattle.std.specs.Char.{IsScalar};
 ghost use Rattle.fancy_meaning.specs.Chars.{any_takes, literal_takes};
 ghost use Rattle.fancy_meaning.specs.Machine.{class_test};
 ghost use Rattle.fancy_characters.specs.Classes.{class_of};
 ghost use Rattle.fancy_nfa_laws.specs.NfaSearch.{passes};
-ghost use Rattle.fancy_nfa.specs.FirstSets.{may_begin, covers, is_over, is_short, steps_within, AreLevels, IsLevel, AreFirstSets};
+ghost use Rattle.fancy_nfa.specs.FirstSets.{has_character, may_begin, covers, is_over, is_short, steps_within, AreLevels, IsLevel, AreFirstSets};
 ghost use Rattle.fancy_backtrack.specs.Loops.{loop_of};
 ghost use Rattle.fancy_nfa.specs.Views.{state_of, test_of, IsStateReadBy, IsReadBy};
 
 use crate::nfa_state::{CharTest, NfaState};
 use fancy_backtrack::loops::Loop;
-use fancy_characters::classes::{CharClassMatcher, ascii_folds};
+use fancy_characters::classes::{CharClassMatcher, ascii_folds, folds_to_others};
 use std::alloc::{AllocError, Global};
 
-/// At how many of a way's first places it is told which ASCII characters can stand there.
+/// The entry of the characters beyond ASCII.
+pub(crate) const OTHERS: usize = 128;
+
+/// At how many of a way's first places it is told which characters can stand there.
 const LEVELS: usize = 5;
 
 /// How often the states are gone through to find what they lead to.
@@ -23,13 +29,13 @@ const PASSES: usize = 4;
 /// It is not known how many iterations were begun.
 pub(crate) const ANY_COUNTER: u8 = 255;
 
-/// The ASCII characters that can stand at a way's first places, level by level, beside any others. There are no more
-/// levels where a way may have ended, and so none if one may take nothing.
+/// The characters that can stand at a way's first places, level by level. There are no more levels where a way may have
+/// ended, and so none if one may take nothing.
 pub(crate) fn first_sets(
     alloc: Global,
     states: &[NfaState],
     unicode: bool,
-) -> Result<Vec<[bool; 128]>, AllocError>
+) -> Result<Vec<[bool; 129]>, AllocError>
     requires { (i : ℕ) (p : NfaState) → slice_get states.now i ≡ Some p → IsStateReadBy unicode p }
     ensures { IfOk result (λ levels. AreFirstSets unicode (map state_of states.now) levels.items) }
 {
@@ -41,15 +47,15 @@ pub(crate) fn first_sets(
     Ok(levels)
 }
 
-/// The ASCII characters that a search can take from these states on, at so many levels at most, and no more where a way
-/// may have ended.
+/// The characters that a search can take from these states on, at so many levels at most, and no more where a way may
+/// have ended.
 pub(crate) fn levels_from(
     alloc: Global,
     states: &[NfaState],
     unicode: bool,
     first: Vec<u8>,
     most: usize,
-) -> Result<Vec<[bool; 128]>, AllocError>
+) -> Result<Vec<[bool; 129]>, AllocError>
     requires { (i : ℕ) (p : NfaState) → slice_get states.now i ≡ Some p → IsStateReadBy unicode p }
     ensures { IfOk result (λ levels. (last : List ℕ)
         × AreLevels unicode (map state_of states.now) first.items levels.items last) }
@@ -58,17 +64,17 @@ pub(crate) fn levels_from(
     let mut reached = first;
     'levels: for _ in 0..most {
         let after = next_states(alloc, states, &reached)?;
-        let Some(ascii) = level_between(states, unicode, &reached, &after) else {
+        let Some(set) = level_between(states, unicode, &reached, &after) else {
             return Ok(levels);
         };
-        levels.push(ascii)?;
+        levels.push(set)?;
         reached = after;
     }
     Ok(levels)
 }
 
-/// Whether such characters stand at the place and behind it, as far as those there are of ASCII.
-pub(crate) fn may_begin(levels: &[[bool; 128]], text: &[u8], ix: usize) -> bool
+/// Whether such characters stand at the place and behind it, up to the first one beyond ASCII.
+pub(crate) fn may_begin(levels: &[[bool; 129]], text: &[u8], ix: usize) -> bool
     ensures { result ≡ may_begin levels.now text.now ix }
 {
     let mut place = ix;
@@ -77,11 +83,11 @@ pub(crate) fn may_begin(levels: &[[bool; 128]], text: &[u8], ix: usize) -> bool
             return false;
         }
         let byte = text[place];
+        if !level[(byte as usize).min(OTHERS)] {
+            return false;
+        }
         if byte >= 128 {
             return true;
-        }
-        if !level[byte as usize] {
-            return false;
         }
         place += 1;
     }
@@ -247,19 +253,19 @@ fn covers_both(reached: &[u8], first: usize, second: usize, counter: u8) -> bool
     covers(reached, first, counter) && covers(reached, second, counter)
 }
 
-/// The ASCII characters that the states reached take, if they lead to each other alone, or by a character to those
+/// The characters that the states reached take, if they lead to each other alone, or by a character to those
 /// after that.
 pub(crate) fn level_between(
     states: &[NfaState],
     unicode: bool,
     reached: &[u8],
     after: &[u8],
-) -> Option<[bool; 128]>
+) -> Option<[bool; 129]>
     requires { (i : ℕ) (p : NfaState) → slice_get states.now i ≡ Some p → IsStateReadBy unicode p }
     ensures { IfSome result
-        (λ ascii. IsLevel unicode (map state_of states.now) reached.now ascii after.now) }
+        (λ set. IsLevel unicode (map state_of states.now) reached.now set after.now) }
 {
-    let mut ascii = [false; 128];
+    let mut set = [false; 129];
     'states: for at in 0..states.len() {
         if counter_at(reached, at) > 0 {
             let nfa_state = &states[at];
@@ -267,75 +273,87 @@ pub(crate) fn level_between(
                 return None;
             }
             if let NfaState::Character(test) = nfa_state {
-                add_taken(test, unicode, &mut ascii);
+                add_taken(test, unicode, &mut set);
             }
         }
     }
-    Some(ascii)
+    Some(set)
 }
 
-/// Adds the ASCII characters that pass the test.
+/// Adds the characters that pass the test.
 #[inline(always)]
-pub(crate) fn add_taken(test: &CharTest, unicode: bool, ascii: &mut [bool; 128])
+pub(crate) fn add_taken(test: &CharTest, unicode: bool, set: &mut [bool; 129])
     requires { IsReadBy unicode test.now }
-    ensures taken { (c : ℕ) → c < 128 → passes [] unicode (test_of test.now) c ≡ true
-        → slice_index_or ascii.new c false ≡ true }
-    ensures kept { (c : ℕ) → slice_index_or ascii.old c false ≡ true
-        → slice_index_or ascii.new c false ≡ true }
+    ensures taken { (c : ℕ) → IsScalar c → passes [] unicode (test_of test.now) c ≡ true
+        → has_character set.new c ≡ true }
+    ensures kept { (c : ℕ) → slice_index_or set.old c false ≡ true
+        → slice_index_or set.new c false ≡ true }
 {
     match test {
-        CharTest::One { c, casei: false } => add_one(*c as usize, ascii),
-        CharTest::One { c, casei: true } => add_folded(*c as u32, unicode, ascii),
-        CharTest::Any { newline, crlf } => add_any(*newline, *crlf, ascii),
-        CharTest::Class(class) => add_class(class, ascii),
+        CharTest::One { c, casei: false } => add_one(*c as usize, set),
+        CharTest::One { c, casei: true } => add_folded(*c as u32, unicode, set),
+        CharTest::Any { newline, crlf } => add_any(*newline, *crlf, set),
+        CharTest::Class(class) => add_class(class, set),
     }
 }
 
-fn add_one(c: usize, ascii: &mut [bool; 128])
-    ensures taken { c < 128 → slice_index_or ascii.new c false ≡ true }
-    ensures kept { (d : ℕ) → slice_index_or ascii.old d false ≡ true
-        → slice_index_or ascii.new d false ≡ true }
+/// Adds a character.
+fn add_one(c: usize, set: &mut [bool; 129])
+    ensures taken { has_character set.new c ≡ true }
+    ensures kept { (d : ℕ) → slice_index_or set.old d false ≡ true
+        → slice_index_or set.new d false ≡ true }
 {
-    if c < 128 {
-        ascii[c] = true;
-    }
+    set[c.min(OTHERS)] = true;
 }
 
-/// Adds the ASCII characters that fold to the same as this character.
-fn add_folded(c: u32, unicode: bool, ascii: &mut [bool; 128])
-    ensures taken { (d : ℕ) → d < 128 → literal_takes unicode c true d ≡ true
-        → slice_index_or ascii.new d false ≡ true }
-    ensures kept { (d : ℕ) → slice_index_or ascii.old d false ≡ true
-        → slice_index_or ascii.new d false ≡ true }
+/// Adds the characters that fold to the same as this character.
+fn add_folded(c: u32, unicode: bool, set: &mut [bool; 129])
+    ensures taken { (d : ℕ) → IsScalar d → literal_takes unicode c true d ≡ true
+        → has_character set.new d ≡ true }
+    ensures kept { (d : ℕ) → slice_index_or set.old d false ≡ true
+        → slice_index_or set.new d false ≡ true }
 {
     let (lower, upper) = ascii_folds(unicode, c);
-    add_one(lower as usize, ascii);
-    add_one(upper as usize, ascii);
+    add_one(lower as usize, set);
+    add_one(upper as usize, set);
+    add_others(folds_to_others(unicode, c), set);
 }
 
-/// Adds the ASCII characters that any character may be.
+/// Adds the characters beyond ASCII, if they are taken.
+fn add_others(are_taken: bool, set: &mut [bool; 129])
+    ensures taken { (d : ℕ) → 128 ≤ d → are_taken ≡ true → has_character set.new d ≡ true }
+    ensures kept { (d : ℕ) → slice_index_or set.old d false ≡ true
+        → slice_index_or set.new d false ≡ true }
+{
+    if are_taken {
+        set[OTHERS] = true;
+    }
+}
+
+/// Adds what any character may be.
 #[inline(always)]
-fn add_any(newline: bool, crlf: bool, ascii: &mut [bool; 128])
-    ensures taken { (c : ℕ) → c < 128 → any_takes newline crlf c ≡ true
-        → slice_index_or ascii.new c false ≡ true }
-    ensures kept { (c : ℕ) → slice_index_or ascii.old c false ≡ true
-        → slice_index_or ascii.new c false ≡ true }
+fn add_any(newline: bool, crlf: bool, set: &mut [bool; 129])
+    ensures taken { (c : ℕ) → any_takes newline crlf c ≡ true → has_character set.new c ≡ true }
+    ensures kept { (c : ℕ) → slice_index_or set.old c false ≡ true
+        → slice_index_or set.new c false ≡ true }
 {
     'ask: for c in 0..128u8 {
         let is_taken = newline | !((c == 10) | (crlf & (c == 13)));
-        ascii[c as usize] = ascii[c as usize] | is_taken;
+        set[c as usize] = set[c as usize] | is_taken;
     }
+    add_others(true, set);
 }
 
-/// Adds the ASCII characters of the class.
+/// Adds the characters of the class.
 #[inline(always)]
-fn add_class(class: &CharClassMatcher, ascii: &mut [bool; 128])
-    ensures taken { (c : ℕ) → c < 128 → class_test (class_of class.now) c ≡ true
-        → slice_index_or ascii.new c false ≡ true }
-    ensures kept { (c : ℕ) → slice_index_or ascii.old c false ≡ true
-        → slice_index_or ascii.new c false ≡ true }
+fn add_class(class: &CharClassMatcher, set: &mut [bool; 129])
+    ensures taken { (c : ℕ) → IsScalar c → class_test (class_of class.now) c ≡ true
+        → has_character set.new c ≡ true }
+    ensures kept { (c : ℕ) → slice_index_or set.old c false ≡ true
+        → slice_index_or set.new c false ≡ true }
 {
     'ask: for c in 0..128u8 {
-        ascii[c as usize] = ascii[c as usize] | class.takes_ascii(c);
+        set[c as usize] = set[c as usize] | class.takes_ascii(c);
     }
+    add_others(class.takes_others(), set);
 }

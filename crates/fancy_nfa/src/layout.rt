@@ -7,11 +7,10 @@ ghost use Rattle.fancy_meaning.specs.Constructs as plain_form;
 ghost use Rattle.fancy_meaning.specs.Tree.{Delegate, Within};
 ghost use Rattle.fancy_nfa_laws.specs.NfaCode.{branches, counted, in_sequence, one, one_of, optional, plus, preferring, repeated, star};
 ghost use Rattle.fancy_nfa_laws.specs.NfaStates as plain;
-ghost use Rattle.fancy_joining.specs.JoinedLoops.{joins, product};
-ghost use Rattle.fancy_nfa.specs.Shapes.{IsJoined, bounds_of, branch_choice, form_of};
+ghost use Rattle.fancy_nfa.specs.Shapes.{branch_choice, form_of};
 ghost use Rattle.fancy_nfa.specs.Views.{IsStateReadBy, state_of};
 ghost use Rattle.fancy_backtrack.specs.Loops.{loop_of};
-ghost use Rattle.std.specs.Prelude.{Bool, IfOk, Some, length, chars, slice_index, slice_index_or, slice_set, ℕ, ◌+◌, ◌*◌, ◌<◌, ◌≡◌};
+ghost use Rattle.std.specs.Prelude.{Bool, IfOk, Some, length, chars, slice_index, slice_index_or, slice_set, ℕ, ◌+◌, ◌<◌, ◌≡◌};
 
 use crate::nfa_state::{CharTest, NfaState};
 use fancy_backtrack::loops::Loop;
@@ -28,14 +27,6 @@ pub(crate) struct Layout {
     pub(crate) alloc: Global,
     pub(crate) unicode: bool,
     pub(crate) states: Vec<NfaState>,
-}
-
-/// The bounds of a loop, and whether it is greedy. `usize::MAX` is no bound.
-#[derive(Clone, Copy)]
-struct Bounds {
-    lo: usize,
-    hi: usize,
-    greedy: bool,
 }
 
 /// How a loop is laid out.
@@ -108,28 +99,6 @@ fn assertion_inside(assertion: Assertion, in_look: bool) -> Assertion
     }
 }
 
-/// The bounds of a loop and of the one in it as one loop, where they are joined.
-fn joined_bounds(outer: Bounds, inner: Bounds, may_join: bool) -> Option<Bounds>
-    ensures { IsJoined (joins may_join (Some (bounds_of outer)) (bounds_of inner))
-        (inner.lo * outer.lo) (product (bound_of outer.hi) (bound_of inner.hi)) outer.greedy result }
-{
-    if !may_join || !outer.greedy || !inner.greedy {
-        return None;
-    }
-    if outer.hi == usize::MAX || inner.hi == usize::MAX {
-        return None;
-    }
-    if inner.lo > 1 || (inner.lo == 1 && outer.lo > 1) || outer.lo > outer.hi || inner.hi == 0 {
-        return None;
-    }
-    let hi = outer.hi.checked_mul(inner.hi)?;
-    if hi == usize::MAX {
-        return None;
-    }
-    let lo = if inner.lo == 0 { 0 } else { outer.lo };
-    Some(Bounds { lo, hi, ..outer })
-}
-
 /// A node's only child.
 fn only_child<'i, 'a>(info: &'i Info<'a>) -> &'i Info<'a>
     requires { 0 < length (info_children info.now) }
@@ -167,7 +136,7 @@ fn room_for_node(info: &Info) -> usize {
 
 impl Layout {
     ghost use Rattle.fancy_nfa.specs.ClassTexts.{no_text, texts_of};
-    ghost use Rattle.fancy_nfa.specs.Layouts.{Lays, LaysEach, LaysJoined, LaysNode, LaysOver, LaysRepeat, Replaces, states_in};
+    ghost use Rattle.fancy_nfa.specs.Layouts.{Lays, LaysEach, LaysNode, LaysOver, LaysRepeat, Replaces, states_in};
     ghost use Rattle.fancy_nfa.specs.Neighbours.{AreNeighbours, IsEasyNode};
     ghost use Rattle.fancy_nfa.specs.Shapes.{ended_by_jump, group_code, with_jumps};
 
@@ -193,9 +162,9 @@ impl Layout {
 
     /// Lays out a node behind the states so far.
     #[cycle(lay)]
-    pub(crate) fn lay(&mut self, info: &Info, may_join: bool) -> Result<(), Error>
+    pub(crate) fn lay(&mut self, info: &Info) -> Result<(), Error>
         requires { IsEasyNode info.now }
-        ensures { LaysNode may_join info.now self.old self.new result }
+        ensures { LaysNode info.now self.old self.new result }
     {
         match info.expr() {
             Expr::Any { newline, crlf } => self.push(NfaState::Character(CharTest::Any {
@@ -205,16 +174,11 @@ impl Layout {
             Expr::Literal { val, casei } => self.lay_literal(val.as_str(), *casei),
             Expr::Delegate { inner, casei } => self.lay_class(inner.as_str(), *casei),
             Expr::Assertion(assertion) => self.lay_assertion(*assertion, info.in_look_around()),
-            Expr::Concat(_) => self.lay_each(info.children(), may_join),
-            Expr::Alt(_) => self.lay_alternation(info.children(), may_join),
-            Expr::Group(_) => self.lay_group(info.start_group(), only_child(info), may_join),
+            Expr::Concat(_) => self.lay_each(info.children()),
+            Expr::Alt(_) => self.lay_alternation(info.children()),
+            Expr::Group(_) => self.lay_group(info.start_group(), only_child(info)),
             Expr::Repeat { lo, hi, greedy, .. } => {
-                let bounds = Bounds {
-                    lo: *lo,
-                    hi: *hi,
-                    greedy: *greedy,
-                };
-                self.lay_joined(bounds, only_child(info), may_join)
+                self.lay_repeat(*lo, *hi, *greedy, only_child(info))
             }
             _ => Ok(()),
         }
@@ -222,12 +186,12 @@ impl Layout {
 
     /// Lays out nodes one after the other.
     #[cycle(lay)]
-    pub(crate) fn lay_each(&mut self, infos: &[Info], may_join: bool) -> Result<(), Error>
+    pub(crate) fn lay_each(&mut self, infos: &[Info]) -> Result<(), Error>
         requires { AreNeighbours infos.now }
-        ensures { LaysEach may_join in_sequence infos.now self.old self.new result }
+        ensures { LaysEach in_sequence infos.now self.old self.new result }
     {
         for info in infos {
-            self.lay(info, may_join)?;
+            self.lay(info)?;
         }
         Ok(())
     }
@@ -264,31 +228,31 @@ impl Layout {
 
     #[cycle(lay)]
     #[inline(never)]
-    fn lay_group(&mut self, group: usize, body: &Info, may_join: bool) -> Result<(), Error>
+    fn lay_group(&mut self, group: usize, body: &Info) -> Result<(), Error>
         requires { IsEasyNode body.now }
-        ensures { LaysOver may_join (group_code group) body.now
+        ensures { LaysOver (group_code group) body.now
             self.old self.new result }
     {
         self.push(NfaState::Open)?;
-        self.lay(body, may_join)?;
+        self.lay(body)?;
         self.push(NfaState::Close(group))
     }
 
     #[cycle(lay)]
     #[inline(never)]
-    fn lay_alternation(&mut self, infos: &[Info], may_join: bool) -> Result<(), Error>
+    fn lay_alternation(&mut self, infos: &[Info]) -> Result<(), Error>
         requires { AreNeighbours infos.now }
-        ensures { LaysEach may_join one_of infos.now self.old self.new result }
+        ensures { LaysEach one_of infos.now self.old self.new result }
     {
-        self.lay_branches(infos, may_join)?;
+        self.lay_branches(infos)?;
         self.push(NfaState::Join)
     }
 
     /// Lays out branches: each but the last goes on behind the last.
     #[cycle(lay)]
-    fn lay_branches(&mut self, infos: &[Info], may_join: bool) -> Result<(), Error>
+    fn lay_branches(&mut self, infos: &[Info]) -> Result<(), Error>
         requires { AreNeighbours infos.now }
-        ensures { LaysEach may_join (branches plain.Split) infos.now self.old self.new result }
+        ensures { LaysEach (branches plain.Split) infos.now self.old self.new result }
     {
         let count = infos.len();
         if count == 0 {
@@ -296,24 +260,24 @@ impl Layout {
         }
         let mut jumps = Vec::with_capacity(self.alloc, count)?;
         for i in 0..count - 1 {
-            let jump = self.lay_branch(i == 0, &infos[i], may_join)?;
+            let jump = self.lay_branch(i == 0, &infos[i])?;
             jumps.push(jump)?;
         }
-        self.lay(&infos[count - 1], may_join)?;
+        self.lay(&infos[count - 1])?;
         self.patch_jumps(jumps);
         Ok(())
     }
 
     /// Lays out a branch before others, and returns where its jump to the end stands, which has no target yet.
     #[cycle(lay)]
-    fn lay_branch(&mut self, is_first: bool, info: &Info, may_join: bool) -> Result<usize, Error>
+    fn lay_branch(&mut self, is_first: bool, info: &Info) -> Result<usize, Error>
         requires { IsEasyNode info.now }
-        ensures lays { LaysOver may_join (ended_by_jump is_first) info.now self.old self.new result }
+        ensures lays { LaysOver (ended_by_jump is_first) info.now self.old self.new result }
         ensures jump { IfOk result (λ jump. jump + 1 ≡ length (states_in self.new)) }
     {
         let here = self.states.len();
         self.push(NfaState::Jump(0))?;
-        self.lay(info, may_join)?;
+        self.lay(info)?;
         let jump = self.states.len();
         self.push(NfaState::Jump(0))?;
         self.patch(here, branch_choice(is_first, here + 1, jump + 1));
@@ -333,53 +297,25 @@ impl Layout {
         }
     }
 
-    /// Lays out a loop over this body, and the loops in it that it is joined with as one.
     #[cycle(lay)]
-    fn lay_joined(&mut self, bounds: Bounds, body: &Info, may_join: bool) -> Result<(), Error>
+    fn lay_repeat(&mut self, lo: usize, hi: usize, greedy: bool, body: &Info) -> Result<(), Error>
         requires { IsEasyNode body.now }
-        ensures { LaysJoined may_join (bounds_of bounds) body.now self.old self.new result }
+        ensures { LaysRepeat lo (bound_of hi) greedy body.now self.old self.new result }
     {
-        match body.expr() {
-            Expr::Repeat { lo, hi, greedy, .. } => {
-                let inner = Bounds {
-                    lo: *lo,
-                    hi: *hi,
-                    greedy: *greedy,
-                };
-                match joined_bounds(bounds, inner, may_join) {
-                    Some(joined) => self.lay_joined(joined, only_child(body), may_join),
-                    None => self.lay_repeat(bounds, body, may_join),
-                }
-            }
-            _ => self.lay_repeat(bounds, body, may_join),
-        }
-    }
-
-    #[cycle(lay)]
-    fn lay_repeat(&mut self, bounds: Bounds, body: &Info, may_join: bool) -> Result<(), Error>
-        requires { IsEasyNode body.now }
-        ensures { LaysRepeat may_join (bounds_of bounds) body.now self.old self.new result }
-    {
-        match loop_form(bounds.lo, bounds.hi, body.min_size() == 0) {
-            Some(form) => self.lay_loop(form, bounds.greedy, body, may_join),
+        match loop_form(lo, hi, body.min_size() == 0) {
+            Some(form) => self.lay_loop(form, greedy, body),
             None => Ok(()),
         }
     }
 
     #[cycle(lay)]
-    fn lay_loop(
-        &mut self,
-        form: LoopForm,
-        greedy: bool,
-        body: &Info,
-        may_join: bool,
-    ) -> Result<(), Error>
+    fn lay_loop(&mut self, form: LoopForm, greedy: bool, body: &Info) -> Result<(), Error>
         requires { IsEasyNode body.now }
-        ensures { LaysOver may_join (λ code. repeated greedy code (form_of (Some form))) body.now
+        ensures { LaysOver (λ code. repeated greedy code (form_of (Some form))) body.now
             self.old self.new result }
     {
         match form {
-            LoopForm::AtMostOnce => self.lay_at_most_once(greedy, body, may_join),
+            LoopForm::AtMostOnce => self.lay_at_most_once(greedy, body),
             LoopForm::Epsilon { lo } => self.lay_counted(
                 Loop {
                     lo,
@@ -388,10 +324,9 @@ impl Layout {
                     asks_moved: true,
                 },
                 body,
-                may_join,
             ),
-            LoopForm::Star => self.lay_star(greedy, body, may_join),
-            LoopForm::Plus => self.lay_plus(greedy, body, may_join),
+            LoopForm::Star => self.lay_star(greedy, body),
+            LoopForm::Plus => self.lay_plus(greedy, body),
             LoopForm::Counted { lo, hi } => self.lay_counted(
                 Loop {
                     lo,
@@ -400,32 +335,31 @@ impl Layout {
                     asks_moved: false,
                 },
                 body,
-                may_join,
             ),
         }
     }
 
     #[cycle(lay)]
-    fn lay_at_most_once(&mut self, greedy: bool, body: &Info, may_join: bool) -> Result<(), Error>
+    fn lay_at_most_once(&mut self, greedy: bool, body: &Info) -> Result<(), Error>
         requires { IsEasyNode body.now }
-        ensures { LaysOver may_join (optional greedy) body.now self.old self.new result }
+        ensures { LaysOver (optional greedy) body.now self.old self.new result }
     {
         let here = self.states.len();
         self.push(NfaState::Jump(0))?;
-        self.lay(body, may_join)?;
+        self.lay(body)?;
         let (first, second) = preferred(greedy, here + 1, self.states.len());
         self.patch(here, NfaState::Split(first, second));
         self.push(NfaState::Join)
     }
 
     #[cycle(lay)]
-    fn lay_star(&mut self, greedy: bool, body: &Info, may_join: bool) -> Result<(), Error>
+    fn lay_star(&mut self, greedy: bool, body: &Info) -> Result<(), Error>
         requires { IsEasyNode body.now }
-        ensures { LaysOver may_join (star greedy) body.now self.old self.new result }
+        ensures { LaysOver (star greedy) body.now self.old self.new result }
     {
         let here = self.states.len();
         self.push(NfaState::Jump(0))?;
-        self.lay(body, may_join)?;
+        self.lay(body)?;
         self.push(NfaState::Jump(here))?;
         let (first, second) = preferred(greedy, here + 1, self.states.len());
         self.patch(here, NfaState::LoopSplit(first, second));
@@ -434,24 +368,24 @@ impl Layout {
 
     /// Past the head, into the body.
     #[cycle(lay)]
-    fn lay_plus(&mut self, greedy: bool, body: &Info, may_join: bool) -> Result<(), Error>
+    fn lay_plus(&mut self, greedy: bool, body: &Info) -> Result<(), Error>
         requires { IsEasyNode body.now }
-        ensures { LaysOver may_join (plus greedy) body.now self.old self.new result }
+        ensures { LaysOver (plus greedy) body.now self.old self.new result }
     {
         let base = self.states.len();
         self.push(NfaState::Jump(base + 2))?;
-        self.lay_star(greedy, body, may_join)
+        self.lay_star(greedy, body)
     }
 
     #[cycle(lay)]
-    fn lay_counted(&mut self, bounds: Loop, body: &Info, may_join: bool) -> Result<(), Error>
+    fn lay_counted(&mut self, bounds: Loop, body: &Info) -> Result<(), Error>
         requires { IsEasyNode body.now }
-        ensures { LaysOver may_join (counted (loop_of bounds)) body.now self.old self.new result }
+        ensures { LaysOver (counted (loop_of bounds)) body.now self.old self.new result }
     {
         self.push(NfaState::CounterBegin)?;
         let here = self.states.len();
         self.push(NfaState::Jump(0))?;
-        self.lay(body, may_join)?;
+        self.lay(body)?;
         self.push(NfaState::Jump(here))?;
         let after = self.states.len();
         self.patch(here, NfaState::CounterLoop { bounds, after });

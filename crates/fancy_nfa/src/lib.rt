@@ -1,8 +1,6 @@
 //! Easy fragments as NFAs: neighbouring nodes laid out as states, and the search for their first way.
 #![tactic(auto)]
 
-mod ascii_runs;
-mod counted_ways;
 mod first_sets;
 pub mod first_way;
 pub mod group_spans;

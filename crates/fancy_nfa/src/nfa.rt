@@ -1,23 +1,21 @@
 //! The NFA of neighbouring easy nodes.
 
-ghost use Rattle.std.specs.Prelude.{◌≡◌, ℕ, List, Some, false, true, IfErr, IfOk, IsTrue, length, map, slice_get};
+ghost use Rattle.std.specs.Prelude.{◌≡◌, ◌≤◌, ℕ, List, Some, false, true, IfErr, IfOk, IsTrue, length, map, slice_get};
 ghost use Rattle.fancy_info.specs.Infos.{info_tree};
 ghost use Rattle.fancy_expr.specs.Each.{Each};
 ghost use Rattle.fancy_meaning.specs.Options.{Analysis};
 ghost use Rattle.fancy_meaning.specs.Places.{is_place};
 ghost use Rattle.fancy_meaning.specs.Premises.{IsText};
 ghost use Rattle.fancy_nfa.specs.FirstSets.{may_begin, AreFirstSets};
-ghost use Rattle.fancy_nfa.specs.LoopsInLoops.{begins_loop, has_loop_in_loop, is_counter_loop};
 ghost use Rattle.fancy_nfa.specs.Neighbours.{AreNeighbours, IsEasy};
 ghost use Rattle.fancy_nfa.specs.Views.{state_of};
-ghost use Rattle.fancy_joining.specs.JoinedLoops.{joined};
 
-use crate::first_sets::{first_sets, may_begin};
+use crate::first_sets::{OTHERS, first_sets, may_begin};
 use crate::layout::{Layout, room_for};
 use crate::nfa_state::NfaState;
 use crate::search::Searcher;
 use fancy_backtrack::memo::Memo;
-use fancy_backtrack::pair_bits::{Loops, PairBits};
+use fancy_backtrack::pair_numbers::{Loops, PairNumbers};
 use fancy_expr::error::Error;
 use fancy_info::info::Info;
 use std::alloc::Global;
@@ -26,12 +24,12 @@ use std::alloc::Global;
 pub struct Nfa {
     pub(crate) states: Vec<NfaState>,
     pub(crate) unicode: bool,
-    /// Which bit a pair has that was found to have no way.
-    pub(crate) pair_bits: PairBits,
+    /// Which number a pair has that was found to have no way.
+    pub(crate) pair_numbers: PairNumbers,
     /// How many loops that count are around the state that has most of them.
     loop_depth: usize,
-    /// The ASCII characters that can stand at a way's first places, level by level, beside any others.
-    pub(crate) first_sets: Vec<[bool; 128]>,
+    /// The characters that can stand at a way's first places, level by level.
+    pub(crate) first_sets: Vec<[bool; 129]>,
     /// Whether ways seem to need no choice, and set no group.
     pub(crate) is_one_pass: bool,
     /// Where ways seem to need no choice and set groups, the first of these.
@@ -45,7 +43,7 @@ impl Drop for Nfa {
         let Nfa {
             states: _,
             unicode: _,
-            pair_bits: _,
+            pair_numbers: _,
             loop_depth: _,
             first_sets: _,
             is_one_pass: _,
@@ -71,41 +69,17 @@ impl Nfa {
         ensures classes { IfOk result (λ f. HaveClasses unicode infos.now) }
         ensures refused { IfErr result (IsRefusedFor unicode infos.now) }
     {
-        Nfa::build_by(alloc, infos, unicode, false)
-    }
-
-    /// As `build`, of the nodes with their loops joined where loops in loops only add up. It has the same first ways.
-    pub fn build_joined(alloc: Global, infos: &[Info], unicode: bool) -> Result<Nfa, Error>
-        requires { AreNeighbours infos.now }
-        ensures nfa { IfOk result (λ f. (a : Analysis)
-            → Each (IsEasy a) infos.now → AreFine (map info_tree infos.now)
-            → IsNfaOf a (map (joined true) (map info_tree infos.now)) unicode f) }
-        ensures classes { IfOk result (λ f. HaveClasses unicode infos.now) }
-        ensures refused { IfErr result (IsRefusedFor unicode infos.now) }
-    {
-        Nfa::build_by(alloc, infos, unicode, true)
-    }
-
-    /// As `build`, where loops may be joined.
-    fn build_by(alloc: Global, infos: &[Info], unicode: bool, may_join: bool) -> Result<Nfa, Error>
-        requires { AreNeighbours infos.now }
-        ensures nfa { IfOk result (λ f. (a : Analysis)
-            → Each (IsEasy a) infos.now → AreFine (map info_tree infos.now)
-            → IsNfaOf a (map (joined may_join) (map info_tree infos.now)) unicode f) }
-        ensures classes { IfOk result (λ f. HaveClasses unicode infos.now) }
-        ensures refused { IfErr result (IsRefusedFor unicode infos.now) }
-    {
         let states = Vec::with_capacity(alloc, room_for(infos).saturating_add(1))?;
         let mut layout = Layout {
             alloc,
             unicode,
             states,
         };
-        layout.lay_each(infos, may_join)?;
+        layout.lay_each(infos)?;
         let mut states = layout.states;
         states.push(NfaState::Match)?;
         let loops = loops_of(&states);
-        let pair_bits = PairBits::of(states.len(), loops);
+        let pair_numbers = PairNumbers::of(states.len(), loops);
         let first_sets = first_sets(alloc, &states, unicode)?;
         let searcher = Searcher {
             states: &states,
@@ -117,26 +91,12 @@ impl Nfa {
         Ok(Nfa {
             states,
             unicode,
-            pair_bits,
+            pair_numbers,
             loop_depth: loops.depth,
             first_sets,
             is_one_pass: seems_one_pass && group.is_none(),
             one_pass_group: if seems_one_pass { group } else { None },
         })
-    }
-
-    /// Whether there is a loop in a loop that counts: it begins right behind the head.
-    pub fn has_loop_in_loop(&self) -> bool
-        ensures { result ≡ has_loop_in_loop false (map state_of self.now.states.items) }
-    {
-        let mut is_in_loop = false;
-        'states: for nfa_state in &self.states {
-            if is_in_loop && begins_loop(nfa_state) {
-                return true;
-            }
-            is_in_loop = is_counter_loop(nfa_state);
-        }
-        false
     }
 
     /// What searches by this NFA in one text, from `pos` on, have memoized: nothing yet.
@@ -145,7 +105,7 @@ impl Nfa {
         ensures knows { HaveFailed result (λ pair. false) }
         ensures budget { result.budget ≡ record { visits = u64.MAX; bytes = usize.MAX } }
     {
-        Memo::new(alloc, self.pair_bits, pos)
+        Memo::new(alloc, self.pair_numbers, pos)
     }
 
     /// Empties a memo of any NFA and any text for this one, and keeps its room. It takes time that follows what was
@@ -155,7 +115,7 @@ impl Nfa {
         ensures knows { HaveFailed memo.new (λ pair. false) }
         ensures budget { memo.new.budget ≡ memo.old.budget }
     {
-        memo.clear(self.pair_bits, pos);
+        memo.clear(self.pair_numbers, pos);
     }
 
     /// Whether a way can begin at `ix`, a character boundary of the text, by the character that stands there. There may
@@ -197,23 +157,20 @@ impl Nfa {
     {
         match self.first_sets.first() {
             None => false,
-            Some(ascii) => byte < 128 && !ascii[byte as usize],
+            Some(set) => !set[(byte as usize).min(OTHERS)],
         }
     }
-}
 
-/// A loop that counts begins here, or a part that may be left out.
-fn begins_loop(nfa_state: &NfaState) -> bool
-    ensures { result ≡ begins_loop (state_of nfa_state.now) }
-{
-    matches!(nfa_state, NfaState::CounterBegin | NfaState::Split(_, _))
-}
-
-/// It is the head of a loop that counts.
-fn is_counter_loop(nfa_state: &NfaState) -> bool
-    ensures { result ≡ is_counter_loop (state_of nfa_state.now) }
-{
-    matches!(nfa_state, NfaState::CounterLoop { .. })
+    /// Whether no way can begin with a character beyond ASCII.
+    pub fn excludes_others(&self) -> bool
+        ensures { IsTrue result → (text : List ℕ) (ix byte : ℕ) → IsText text → IsTrue (is_place text ix)
+            → 128 ≤ byte → slice_get text ix ≡ Some byte → HasNoWayAt text self.now ix }
+    {
+        match self.first_sets.first() {
+            None => false,
+            Some(set) => !set[OTHERS],
+        }
+    }
 }
 
 /// The least number of a group that ends at one of these states.

@@ -6,6 +6,7 @@ ghost use Rattle.fancy_meaning.specs.Machine.{class_test};
 ghost use Rattle.fancy_meaning.specs.Moves.{past_char};
 ghost use Rattle.fancy_characters.specs.Classes.{class_of};
 ghost use Rattle.fancy_nfa_laws.specs.NfaSearch as plain;
+ghost use Rattle.fancy_nfa.specs.AsciiRuns.{AllPass};
 ghost use Rattle.fancy_nfa.specs.Views.{IsReadBy, test_of};
 
 use fancy_backtrack::loops::Loop;
@@ -133,6 +134,23 @@ impl CharTest {
         } else {
             Ok(None)
         }
+    }
+
+    /// Past the characters of ASCII from this place on that pass.
+    #[inline(always)]
+    pub(crate) fn skip_ascii(&self, unicode: bool, text: &[u8], from: usize) -> usize
+        requires { IsReadBy unicode self.now }
+        ensures pass { AllPass (plain.passes [] unicode (test_of self.now)) text.now from result }
+        ensures further { from ≤ result }
+    {
+        let mut place = from;
+        'run: while place < text.len()
+            && text[place] < 128
+            && self.takes_ascii(unicode, text[place])
+        {
+            place += 1;
+        }
+        place
     }
 
     /// As `past`, whatever character stands there.

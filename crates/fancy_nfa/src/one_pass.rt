@@ -8,19 +8,16 @@ ghost use Rattle.fancy_nfa.specs.declared.nfa_state.NfaState.TheVariants as nfa_
 ghost use Rattle.fancy_nfa.specs.Runs.{FailsFrom};
 ghost use Rattle.fancy_nfa.specs.Searches.{IsSearcher};
 ghost use Rattle.fancy_nfa_laws.specs.NfaSearch.{NfaConfig};
-ghost use Rattle.fancy_nfa.specs.CountedWays.{ComesPast};
 ghost use Rattle.fancy_nfa.specs.GroupSpans.{AreGroupsOf, spans_in};
-ghost use Rattle.fancy_nfa.specs.OnePass.{AreBranches, EndsOnePass, EndsOnePassWith, Finds, IsFirstTest, IsOnePass, IsOnePassWay, RunsOn, RunsPast, Walks, config_at};
+ghost use Rattle.fancy_nfa.specs.OnePass.{AreBranches, ComesPast, EndsOnePass, EndsOnePassWith, Finds, IsFirstTest, IsOnePass, IsOnePassWay, RunsOn, RunsPast, Walks, config_at};
 ghost use Rattle.fancy_nfa.specs.Views.{IsReadBy};
 ghost use Rattle.fancy_nfa.specs.Ways.{IsOfNodes};
 
-use crate::counted_ways::Passed;
 use crate::first_sets::add_taken;
 use crate::group_spans::GroupSpans;
 use crate::nfa::Nfa;
 use crate::nfa_state::{CharTest, NfaState};
 use crate::search::Searcher;
-use fancy_backtrack::loops::Loop;
 use fancy_characters::look::holds;
 use std::alloc::{AllocError, Global};
 
@@ -32,6 +29,32 @@ pub enum OnePass {
     /// There is none.
     Fails,
     /// Nothing.
+    Unknown,
+}
+
+/// What a state leads to, or a loop over one character, where no choice is taken back.
+#[derive(Clone, Copy)]
+pub(crate) enum Passed {
+    /// On at this state and place. That is sure where no way was kept for later.
+    On {
+        at: usize,
+        place: usize,
+        is_sure: bool,
+    },
+    /// The end.
+    Ends,
+    /// A group begins, and the search goes on at this state.
+    Opens {
+        at: usize,
+    },
+    /// This group ends.
+    Closes {
+        group: usize,
+        at: usize,
+    },
+    /// It leads nowhere.
+    Fails,
+    /// It is a loop that counts.
     Unknown,
 }
 
@@ -93,8 +116,8 @@ impl Nfa {
 }
 
 impl Searcher<'_> {
-    /// Ways seem to need no choice that is taken back: loops that count are over one character, and what may be tried at
-    /// one place begins with other characters each.
+    /// Ways seem to need no choice that is taken back: no loop counts, and what may be tried at one place begins with other
+    /// characters each.
     pub(crate) fn seems_one_pass(&self) -> bool
         requires { IsSearcher self.now }
     {
@@ -103,7 +126,7 @@ impl Searcher<'_> {
                 Some(NfaState::LoopSplit(first, second) | NfaState::Split(first, second)) => {
                     self.are_apart(*first, *second)
                 }
-                Some(NfaState::CounterLoop { bounds, after }) => self.is_alone(at, *bounds, *after),
+                Some(NfaState::CounterLoop { .. }) => false,
                 _ => true,
             };
             if !is_one_pass {
@@ -111,31 +134,6 @@ impl Searcher<'_> {
             }
         }
         true
-    }
-
-    /// The loop that counts with this head is over one character, and it takes so many and no more, or what comes
-    /// behind it begins with others.
-    fn is_alone(&self, head: usize, bounds: Loop, after: usize) -> bool
-        requires { IsSearcher self.now }
-    {
-        self.counted_test(head, bounds).is_some()
-            && (bounds.lo == bounds.hi || self.are_apart(head + 1, self.behind_joins(after)))
-    }
-
-    /// Behind the ends and the heads of loops and the ends of groups from this state on, on into the last loop or group.
-    fn behind_joins(&self, at: usize) -> usize {
-        let mut next = at;
-        'joins: while let Some(
-            NfaState::Join
-            | NfaState::CounterBegin
-            | NfaState::CounterLoop { .. }
-            | NfaState::Open
-            | NfaState::Close(_),
-        ) = self.states.get(next)
-        {
-            next += 1;
-        }
-        next
     }
 
     /// No character of ASCII passes the tests at two of these states and of the branches behind the second one.
@@ -148,7 +146,7 @@ impl Searcher<'_> {
         ) {
             return true;
         }
-        let mut taken = [false; 128];
+        let mut taken = [false; 129];
         if !self.are_others(first, &mut taken) {
             return false;
         }
@@ -166,13 +164,13 @@ impl Searcher<'_> {
     }
 
     /// None of these characters passes the test at this state, if there is one; those that pass it are added.
-    fn are_others(&self, at: usize, taken: &mut [bool; 128]) -> bool
+    fn are_others(&self, at: usize, taken: &mut [bool; 129]) -> bool
         requires { IsSearcher self.now }
     {
         let Some(test) = self.test_at(at) else {
             return true;
         };
-        let mut own = [false; 128];
+        let mut own = [false; 129];
         add_taken(test, self.unicode, &mut own);
         let mut are_others = true;
         'ask: for c in 0..128usize {
@@ -346,7 +344,7 @@ impl Searcher<'_> {
                         is_sure: false,
                     });
                 }
-                let next = chosen(self.fails_soon(*first, place), *first, *second);
+                let next = chosen(self.fails_from(*first, place), *first, *second);
                 Ok(Passed::On {
                     at: next,
                     place,
@@ -363,7 +361,6 @@ impl Searcher<'_> {
                 group: *group,
                 at: at + 1,
             }),
-            Some(NfaState::CounterBegin) => self.skip_counted(alloc, at, place),
             _ => Ok(self.skip_branch(at, place)),
         }
     }
@@ -378,7 +375,7 @@ impl Searcher<'_> {
         let Some(second) = other else {
             return Passed::Unknown;
         };
-        let is_lost = self.fails_branch(first, second, place);
+        let is_lost = self.fails_from(first, place);
         Passed::On {
             at: chosen(is_lost, first, second),
             place,
@@ -406,21 +403,6 @@ impl Searcher<'_> {
         false
     }
 
-    /// As `fails_from`, of the first of two branches, and as `fails_soon` where that is a part that may be left out.
-    #[inline(always)]
-    fn fails_branch(&self, first: usize, second: usize, place: usize) -> bool
-        requires { IsSearcher self.now }
-        ensures { IsTrue result → FailsFrom self.now first place }
-    {
-        self.fails_from(first, place) || (self.is_join(second) && self.fails_second(first, place))
-    }
-
-    /// A part that may be left out ends at this state.
-    #[inline(always)]
-    fn is_join(&self, at: usize) -> bool {
-        matches!(self.states.get(at), Some(NfaState::Join))
-    }
-
     /// The first of two branches from this state and the other one, or else this state alone.
     #[inline(always)]
     fn first_branch(&self, at: usize) -> (usize, Option<usize>)
@@ -443,46 +425,6 @@ impl Searcher<'_> {
     {
         match self.test_at(at) {
             Some(test) => self.is_excluded(test, place),
-            None => false,
-        }
-    }
-
-    /// As `fails_from`, or the character there passes a test that comes first, and the next one fails the test behind.
-    #[inline(always)]
-    fn fails_soon(&self, from: usize, place: usize) -> bool
-        requires { IsSearcher self.now }
-        ensures { IsTrue result → FailsFrom self.now from place }
-    {
-        self.fails_from(from, place) || self.fails_second(from, place)
-    }
-
-    /// A test is at this state, perhaps behind a jump and where groups begin or end. A character of one byte passes it, and
-    /// the next one fails the test behind.
-    #[inline(never)]
-    fn fails_second(&self, at: usize, place: usize) -> bool
-        requires { IsSearcher self.now }
-        ensures { IsTrue result → FailsFrom self.now at place }
-    {
-        let first = self.behind_groups(self.behind_jump(at));
-        match self.states.get(first) {
-            Some(NfaState::Character(test)) => self.fails_behind(test, first, place),
-            _ => false,
-        }
-    }
-
-    /// A character of one byte passes the test at this state, and the next one fails the test behind.
-    #[inline(always)]
-    fn fails_behind(&self, test: &CharTest, at: usize, place: usize) -> bool
-        requires searcher { IsSearcher self.now }
-        requires read { IsReadBy self.now.unicode test.now }
-        requires there { slice_get self.now.states.now at ≡ Some (nfa_state.Character test.now) }
-        ensures { IsTrue result → FailsFrom self.now at place }
-    {
-        let (Some(next), Some(after)) = (at.checked_add(1), place.checked_add(1)) else {
-            return false;
-        };
-        match self.test_at(next) {
-            Some(second) => self.is_excluded(second, after) && self.passes(test, place),
             None => false,
         }
     }

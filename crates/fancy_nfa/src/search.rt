@@ -7,11 +7,9 @@ ghost use Rattle.fancy_nfa_laws.specs.NfaStates as states;
 ghost use Rattle.fancy_nfa.specs.Views.{IsStateReadBy, IsReadBy, test_of};
 ghost use Rattle.fancy_nfa.specs.declared.nfa_state.NfaState.TheVariants as nfa_state;
 ghost use Rattle.fancy_backtrack.specs.Memos.{IsHere, IsSearch, Simulates, fails_before};
-ghost use Rattle.fancy_nfa.specs.Runs.{lost_visits};
 ghost use Rattle.fancy_nfa.specs.Searches.{Advances, ComesTo, EndsAs, GoesBack, IsSearcher, continuation_of};
 
 use crate::nfa_state::{CharTest, NfaState};
-use fancy_backtrack::loops::Loop;
 use fancy_backtrack::memo::{Memo, StepResult};
 use fancy_backtrack::trail::{LoopCounter, NfaConfig};
 use fancy_characters::look::holds;
@@ -23,14 +21,6 @@ pub(crate) struct Searcher<'a> {
     pub(crate) states: &'a [NfaState],
     pub(crate) unicode: bool,
     pub(crate) text: &'a str,
-}
-
-/// How many states are taken up where a choice has no way left: if its other way was untried, one that fails.
-#[inline(always)]
-fn lost_visits(is_untried: bool) -> u64
-    ensures { result ≡ lost_visits is_untried }
-{
-    if is_untried { 1 } else { 0 }
 }
 
 impl Searcher<'_> {
@@ -118,9 +108,7 @@ impl Searcher<'_> {
             NfaState::BranchSplit(first, _) => m.choose(config, *first),
             NfaState::Close(group) => m.close(config, *group),
             NfaState::Join => m.join(config),
-            NfaState::CounterLoop { bounds, after } => self.take_up_counter_loop(
-                m, config, *bounds, *after,
-            ),
+            NfaState::CounterLoop { bounds, after } => m.counter_loop(config, *bounds, *after),
             NfaState::Split(first, _) => {
                 m.count();
                 m.choose(config, *first)
@@ -153,7 +141,7 @@ impl Searcher<'_> {
         }
     }
 
-    /// At the head of a loop that does not count, past it or past what it goes over in one go.
+    /// At the head of a loop that does not count, past what it goes over in one go if its body is one character.
     #[inline(always)]
     fn take_up_loop_split(
         &self,
@@ -169,35 +157,11 @@ impl Searcher<'_> {
             → ComesTo self.now (TakesUp s f) result m.new }
         ensures budget { m.new.budget ≡ m.old.budget }
     {
-        let on = self.skip_loop(m, config)?;
-        if on.at != config.at {
-            return Ok(StepResult::Goes(on));
-        }
+        let Some(test) = self.body_at(first, config.at) else {
+            return m.loop_split(config, first);
+        };
+        let on = self.skip_run(m, test, config)?;
         m.loop_split(on, first)
-    }
-
-    /// At the head of a loop that counts, past it or past what it goes over in one go.
-    #[inline(always)]
-    fn take_up_counter_loop(
-        &self,
-        m: &mut Memo,
-        config: NfaConfig,
-        bounds: Loop,
-        after: usize,
-    ) -> Result<StepResult, AllocError>
-        requires searcher { IsSearcher self.now }
-        requires at { slice_get self.now.states.now config.at ≡ Some
-            (nfa_state.CounterLoop bounds after) }
-        ensures leads { (s : plain.NfaConfig) (f : Search)
-            → IsSearch (continuation_of self.now) m.old f → IsHere m.old config s
-            → ComesTo self.now (TakesUp s f) result m.new }
-        ensures budget { m.new.budget ≡ m.old.budget }
-    {
-        let on = self.skip_loop(m, config)?;
-        if on.at != config.at {
-            return Ok(StepResult::Goes(on));
-        }
-        m.counter_loop(on, bounds, after)
     }
 
     /// Past one character that passes the test.
@@ -239,10 +203,9 @@ impl Searcher<'_> {
         ensures budget { m.new.budget ≡ m.old.budget }
     {
         'frames: while let Some(choice) = m.pop() {
-            if choice.is_untried && !self.is_lost(choice.config) {
+            if choice.is_untried {
                 return self.take_other(m, choice.config);
             }
-            m.count_more(lost_visits(choice.is_untried));
             m.add_failed(choice.config)?;
         }
         Ok(StepResult::Lost)

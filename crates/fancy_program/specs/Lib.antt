@@ -5,5 +5,4 @@ pub mod StartRuns
 pub mod Attempts
 pub mod SingleDelegates
 pub mod Strategies
-pub mod AsciiSets
 pub mod LookPrefilters

@@ -1,7 +1,6 @@
 //! Programs: instructions, what a run reads beside them, and what their shape tells.
 #![tactic(auto)]
 
-mod ascii_set;
 mod attempt;
 pub mod insn;
 mod listing;

@@ -6,5 +6,4 @@ pub mod StepLaws
 pub mod TrailingNewlinesLaws
 pub mod MemosLaws
 pub mod PairsLaws
-pub mod LastStartsLaws
 pub mod SearchLimitsLaws

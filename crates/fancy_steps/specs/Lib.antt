@@ -6,4 +6,3 @@ pub mod Stops
 pub mod TrailingNewlines
 pub mod Outcomes
 pub mod SearchLimits
-pub mod LastStarts

@@ -338,12 +338,12 @@ impl Memos {
         let pos = task.options.pos;
         match take_out(&mut self.by_place, pc) {
             None => Ok(RunMemo {
-                memo: Box::new(task.alloc, fragment.joined_memo(task.alloc, pos))?,
+                memo: Box::new(task.alloc, fragment.memo(task.alloc, pos))?,
                 run: self.run,
             }),
             Some(RunMemo { mut memo, run }) => {
                 if run != self.run {
-                    fragment.clear_joined(&mut *memo, pos);
+                    fragment.clear(&mut *memo, pos);
                 }
                 Ok(RunMemo {
                     memo,

@@ -30,13 +30,7 @@ impl Machine<'_> {
             left -= 1;
             match self.step(body, memos)? {
                 Next::On => {}
-                Next::Passed => {
-                    left = left.saturating_sub(self.passed);
-                    if self.has_one_start() && self.is_over(left) {
-                        self.left = left;
-                        return Ok(false);
-                    }
-                }
+                Next::Passed => left = left.saturating_sub(self.passed),
                 Next::Fails => unreachable!(),
                 Next::Matches => {
                     self.left = left;
@@ -49,28 +43,6 @@ impl Machine<'_> {
             }
         }
         Err(Stop::Limit(RuntimeError::StepLimitExceeded))
-    }
-
-    /// Only the text's beginning is a start.
-    #[inline(always)]
-    fn has_one_start(&self) -> bool {
-        match &self.task.prog.prefilter {
-            None => false,
-            Some(prefilter) => prefilter.is_beginning(),
-        }
-    }
-
-    /// With so many instructions left the run ends without a match: it is at the search, and no start is left.
-    #[inline(never)]
-    fn is_over(&self, left: u64) -> bool
-        requires place { IsTrue (is_place self.now.task.text.now self.now.ix) }
-        ensures { IsTrue result → machine.exec (plain_task self.now.task) left (config_of self.now)
-            ≡ ending false self.now }
-    {
-        if self.pc != 0 || self.state.backtrack_count() != 0 || self.longest.is_held() {
-            return false;
-        }
-        self.task.has_no_start(self.ix, left, self.backtracks)
     }
 
     /// Writes the numbers that the run answers over these.

@@ -2,7 +2,7 @@
 
 ghost use Rattle.std.specs.Prelude.{◌≡◌, ◌+◌, ◌-◌, ◌*◌, ◌/◌, ◌<◌, min, None, IfOk, IsTrue, OnOk};
 ghost use Rattle.fancy_meaning.specs.Places.{is_place};
-ghost use Rattle.fancy_fragments.specs.Fragments.{IsFirstWayOf, IsJoinedMemoFor};
+ghost use Rattle.fancy_fragments.specs.Fragments.{IsFirstWayOf, IsMemoFor};
 ghost use Rattle.fancy_nfa.specs.Ways.{HasAscending};
 ghost use Rattle.fancy_steps.specs.SearchLimits.{held_by, left_of, no_cost, no_limits, passed_by, visit_cost};
 
@@ -10,7 +10,7 @@ use crate::machine::Task;
 use fancy_backtrack::budget::Budget;
 use fancy_backtrack::memo::Memo;
 use fancy_expr::error::Error;
-use fancy_fragments::first_way::first_way_joined;
+use fancy_fragments::first_way::first_way_with;
 use fancy_fragments::fragment::Fragment;
 use fancy_nfa::first_way::FirstWay;
 
@@ -132,10 +132,10 @@ impl SearchCost {
         memo: &mut Memo,
     ) -> Result<FirstWay, Error>
         requires place { IsTrue (is_place task.now.text.now ix) }
-        requires memo { IsJoinedMemoFor task.now.text.now fragment.now memo.old }
+        requires memo { IsMemoFor task.now.text.now fragment.now memo.old }
         ensures first { IfOk result (IsFirstWayOf task.now.text.now fragment.now ix) }
         ensures ascends { IfOk result HasAscending }
-        ensures memo { IsJoinedMemoFor task.now.text.now fragment.now memo.new }
+        ensures memo { IsMemoFor task.now.text.now fragment.now memo.new }
         ensures within { OnOk result (passed_by task.now.limits self.new ≡ None) }
         ensures visits { IfOk result
             (λ found. self.new.visits
@@ -146,7 +146,7 @@ impl SearchCost {
         self.bytes = self.bytes.saturating_sub(task.limits.held(memo));
         let each = visit_cost(fragment);
         memo.limit(task.limits.left(*self, each));
-        let way = first_way_joined(task.alloc, fragment, task.text, ix, memo);
+        let way = first_way_with(task.alloc, fragment, task.text, ix, memo);
         let visits = match &way {
             Ok(found) => found.visits,
             Err(_) => memo.visits(),

@@ -1,5 +1,4 @@
 pub mod Ready
-pub mod PassedStarts
 pub mod Means
 pub mod Bounds
 pub mod Steppers

@@ -4,6 +4,6 @@ use Rattle.fancy_nfa.proofs.first_sets.add_any.Given as goal
 
 abbrev pub invariant-ask : goal.invariant-ask
 invariant-ask l =
-    ((c : ℕ) → c < l.c → any_takes l.fn.newline l.fn.crlf c ≡ true → slice_index_or l.ascii c false ≡ true)
-    × ((c : ℕ) → slice_index_or l.fn.ascii c false ≡ true → slice_index_or l.ascii c false ≡ true)
-    × (length l.ascii ≡ 128)
+    ((c : ℕ) → c < l.c → any_takes l.fn.newline l.fn.crlf c ≡ true → slice_index_or l.set c false ≡ true)
+    × ((c : ℕ) → slice_index_or l.fn.set c false ≡ true → slice_index_or l.set c false ≡ true)
+    × (length l.set ≡ 129)

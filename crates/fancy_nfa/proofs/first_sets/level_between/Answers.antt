@@ -24,24 +24,24 @@ states-preserved c =
     let n = c.states.at in
     elim c.if-counter_at-gt0.branch [
       | then-counter_at-gt0+else-not-steps_on+in-Character w ↦
-          subst (λ ascii. AreWithin unicode states reached after ascii (n + 1)) (sym w.ascii-is)
-          (within_more unicode states reached after c.states.ascii w.add_taken.new.ascii n w.index-states-at.result c.states-test.true
+          subst (λ ascii. AreWithin unicode states reached after ascii (n + 1)) (sym w.set-is)
+          (within_more unicode states reached after c.states.set w.add_taken.new.set n w.index-states-at.result c.states-test.true
           w.index-states-at.is w.add_taken.ensures.kept c.states.invariant
           (sym w.steps_on.ensures ∙ w.if-not-steps_on.false)
-          (subst (λ p. TakesAmong unicode w.add_taken.new.ascii (state_of p)) (sym w.in-Character.is) w.add_taken.ensures.taken))
+          (subst (λ p. TakesAmong unicode w.add_taken.new.set (state_of p)) (sym w.in-Character.is) w.add_taken.ensures.taken))
       | then-counter_at-gt0+else-not-steps_on+in_default w ↦
-          subst (λ ascii. AreWithin unicode states reached after ascii (n + 1)) (sym w.ascii-is)
-          (within_more unicode states reached after c.states.ascii c.states.ascii n w.index-states-at.result c.states-test.true
+          subst (λ ascii. AreWithin unicode states reached after ascii (n + 1)) (sym w.set-is)
+          (within_more unicode states reached after c.states.set c.states.set n w.index-states-at.result c.states-test.true
           w.index-states-at.is (λ k e. e) c.states.invariant
           (sym w.steps_on.ensures ∙ w.if-not-steps_on.false)
-          (no_take unicode c.states.ascii w.index-states-at.result w.in_default.not-Character))
+          (no_take unicode c.states.set w.index-states-at.result w.in_default.not-Character))
       | else-counter_at-gt0 w ↦
-          subst (λ ascii. AreWithin unicode states reached after ascii (n + 1)) (sym w.ascii-is)
-          (unreached_within unicode states reached after c.states.ascii n
+          subst (λ ascii. AreWithin unicode states reached after ascii (n + 1)) (sym w.set-is)
+          (unreached_within unicode states reached after c.states.set n
           (subst (λ k. k ≤ 0) c.counter_at.ensures w.if-counter_at-gt0.false) c.states.invariant)
     ]
 
 pub returns : goal.returns
 returns c =
     let all : length c.args.states.now ≤ c.states.at = omega (arith, c.states-test.false) in
-    all_within c.args.unicode c.args.states.now c.args.reached.now c.args.after.now c.states.ascii c.states.at all c.states.invariant
+    all_within c.args.unicode c.args.states.now c.args.reached.now c.args.after.now c.states.set c.states.at all c.states.invariant

@@ -19,7 +19,7 @@ levels-preserved c =
     let first = c.args.first.items in
     let reached = c.levels.reached.items in
     let after = c.in_ok-after.after.items in
-    let ascii = c.in-Some.ascii in
+    let ascii = c.in-Some.set in
     subst (λ levels. AreLevels unicode states first levels after) (sym c.in_ok-push.ensures.items)
     (one_more unicode states first c.levels.levels.items reached ascii after c.levels.invariant
     (subst (λ r. IsLevel unicode states r ascii after) c.deref-in-levels.ensures.value

@@ -10,5 +10,5 @@ returns-then-is_empty-clause-ok c = λ s failed h have. sym (c.is_empty.ensures 
 
 pub returns-then-config-eq0-clause-ok : goal.returns-then-config-eq0-clause-ok
 returns-then-config-eq0-clause-ok c = λ s failed h have.
-    c.has_outside.ensures ∙ ap (has_pair c.args.self.now.failed) (key_outside c.args.self.now c.args.config s h c.if-config-eq0.true)
+    c.has.ensures ∙ ap (has_pair c.args.self.now.failed) (key_outside c.args.self.now c.args.config s h c.if-config-eq0.true)
     ∙ have (pair_of s)

@@ -8,4 +8,4 @@ use Rattle.fancy_backtrack.proofs.memo.Memo.limit.Goals as goal
 pub returns-clause-failed : goal.returns-clause-failed
 returns-clause-failed c failed have p =
     ap (λ (f : Failed). has_pair f (key_of p)) c.limit.ensures
-    ∙ same_pairs c.args.self.now.failed c.args.self.now.failed.wanted c.args.budget.bytes (key_of p) ∙ have p
+    ∙ same_pairs c.args.self.now.failed c.args.budget.bytes (key_of p) ∙ have p

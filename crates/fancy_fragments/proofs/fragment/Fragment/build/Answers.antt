@@ -1,6 +1,6 @@
 use Rattle.std.proofs.Common.{ap}
 use Rattle.fancy_meaning.specs.Batches.{fragment}
-use Rattle.fancy_fragments.proofs.FragmentNodes.{each_analysed, same_nodes, laid_over, joined_over, fits_copied}
+use Rattle.fancy_fragments.proofs.FragmentNodes.{each_analysed, same_nodes, laid_over, fits_copied}
 use Rattle.fancy_fragments.proofs.fragment.Fragment.build.Goals as goal
 
 pub settable_above-requires : goal.settable_above-requires
@@ -13,8 +13,6 @@ invariant_of-result c =
     let exprs = c.in_ok-exprs.exprs.items in record {
       laid_out = laid_over is c.requires exprs c.in_ok-exprs.ensures _ _ c.beginning-first_group.ensures c.args.unicode c.in_ok-nfa.nfa
           c.in_ok-nfa.ensures.nfa;
-      joined_laid_out = joined_over is c.requires exprs c.in_ok-exprs.ensures _ _ c.beginning-first_group.ensures c.args.unicode
-          c.in_ok-of_joined.of_joined c.in_ok-of_joined.ensures.nfa;
       fits = fits_copied is c.requires exprs c.in_ok-exprs.ensures _ _ c.beginning-first_group.ensures c.settable_above.result
           c.settable_above.ensures;
     }

@@ -1,28 +1,24 @@
-use Rattle.std.proofs.Common.{Some, None, ◌≡◌, ℕ, ◌+◌, ◌-◌, ◌<◌, ◌≤◌, ◌==◌, true, false, [], ◌∷◌, ◌++◌, length, drop, get_or, refl, sym, ap, ◌∙◌, subst, arith, length-append, ne_eqb}
+use Rattle.std.proofs.Common.{Some, ◌≡◌, ℕ, ◌+◌, ◌-◌, ◌<◌, ◌≤◌, ◌==◌, true, false, [], ◌∷◌, ◌++◌, length, drop, get_or, refl, sym, ap, ◌∙◌, subst, arith, length-append, ne_eqb}
 use Rattle.fancy_meaning.specs.Tree as plain_tree
-use Rattle.fancy_meaning.specs.Tree.{trees}
 use Rattle.fancy_meaning.specs.Constructs.{loop_form}
-use Rattle.fancy_meaning.specs.Sizes.{Size, size, known_of}
+use Rattle.fancy_meaning.specs.Sizes.{Size, size}
 use Rattle.fancy_delegation.proofs.EasyNodes.{easy_group, easy_repeat, easy_concat, easy_alt}
 use Rattle.fancy_info.specs.declared.info.Info.TheViews.{out-Info}
-use Rattle.fancy_info.specs.Infos.{info_tree, info_children, info_within, nth}
+use Rattle.fancy_info.specs.Infos.{info_tree, info_children}
 use Rattle.fancy_expr.specs.Views.{bound_of}
 use Rattle.fancy_nfa_laws.specs.NfaStates as plain
 use Rattle.fancy_nfa_laws.specs.NfaCode.{NfaCode, ◌>>◌, one, around, headed, preferring, laid, each_laid, in_sequence, branches, one_of, repeated, star, plus}
 use Rattle.fancy_nfa.specs.ClassTexts.{texts_of, texts_in, AreClasses}
 use Rattle.fancy_nfa.specs.Views.{state_of}
 use Rattle.fancy_backtrack.specs.Loops.{loop_of}
-use Rattle.fancy_nfa.specs.Shapes.{bounds_of, form_of, branch_choice, group_code, with_jumps}
-use Rattle.fancy_nfa.specs.Layouts.{Replaces, Lays, states_in, laid_joined, each_laid_joined}
-use Rattle.fancy_joining.specs.JoinedLoops.{Bounds, joined, joined_in}
-use Rattle.fancy_joining.proofs.JoinedSizes.{size_keeps}
+use Rattle.fancy_nfa.specs.Shapes.{form_of, branch_choice, group_code, with_jumps}
+use Rattle.fancy_nfa.specs.Layouts.{Replaces, Lays, states_in}
 use Rattle.fancy_nfa.specs.Neighbours.{IsEasy, trees_of}
 use Rattle.fancy_info.specs.NodeCounts.{node_counts}
 use Rattle.fancy_info.proofs.Children.{node_count-below, child_count, each_at, tree_by}
 use Rattle.fancy_nfa.proofs.Nodes.{easy_kids, easy_size, has_one, smaller_child, tree_over, easy_body}
-use Rattle.fancy_nfa.proofs.Laid.{place, same_states, replaced_then, replaced_same, lays_by, lays_behind, lays_before, adds_behind, adds_before, adds_headed, adds_around, lays_at, lays_fault}
+use Rattle.fancy_nfa.proofs.Laid.{place, same_states, replaced_then, replaced_same, lays_behind, lays_before, adds_behind, adds_before, adds_headed, adds_around, lays_at, lays_fault}
 use Rattle.fancy_nfa.proofs.Texts.{lays_fault_at, lays_parts, lays_part, repeat_parts, form_enters}
-use Rattle.fancy_nfa.proofs.JoinedLayout.{apart, joined_step, left_step, same_texts}
 use Rattle.fancy_nfa.proofs.Branches.{sequence_step, sequence_end, with_branches, branch_step, branch_end, classes_step, classes_end}
 use Rattle.fancy_nfa.proofs.layout.Layout.+lay.Goals as goal
 
@@ -67,8 +63,8 @@ lay-only_child-requires-in-Repeat t c =
     let info = c.args.info.now in
     omega (arith, has_one info c.requires.0 c.requires.1 info _ (sym c.expr.ensures ∙ c.in-Repeat.is) refl)
 
-pub lay-lay_joined-requires : goal.lay-lay_joined-requires
-lay-lay_joined-requires t c =
+pub lay-lay_repeat-requires : goal.lay-lay_repeat-requires
+lay-lay_repeat-requires t c =
     let info = c.args.info.now in
     let body = c.only_child-in-Repeat.result.now in
     let a = c.requires.0 in
@@ -89,9 +85,9 @@ lay-returns-in-Concat t c = λ a easy.
     let tree = tree_by info _ _ (sym c.expr.ensures ∙ c.in-Concat.is) refl in
     let s = c.args.self.now in
     let u = c.lay_each.new.self in
-    subst (λ e. Lays (laid_joined c.args.may_join a.tree e) (texts_of e) s u c.lay_each.result) (sym tree)
-    (lays_parts (in_sequence (each_laid_joined c.args.may_join a.tree (trees_of kids))) (plain_tree.Concat (trees_of kids)) tt s u c.lay_each.result
-    (subst (λ l. Lays (in_sequence (each_laid_joined c.args.may_join a.tree (trees_of l))) (texts_in (trees_of l)) s u c.lay_each.result) c.children.ensures
+    subst (λ e. Lays (laid a.tree e) (texts_of e) s u c.lay_each.result) (sym tree)
+    (lays_parts (in_sequence (each_laid a.tree (trees_of kids))) (plain_tree.Concat (trees_of kids)) tt s u c.lay_each.result
+    (subst (λ l. Lays (in_sequence (each_laid a.tree (trees_of l))) (texts_in (trees_of l)) s u c.lay_each.result) c.children.ensures
     (c.lay_each.ensures a (easy_kids info a easy plain_tree.Concat (easy_concat a) tree _ c.children.ensures))))
 
 pub lay-returns-in-Alt : goal.lay-returns-in-Alt
@@ -101,9 +97,9 @@ lay-returns-in-Alt t c = λ a easy.
     let tree = tree_by info _ _ (sym c.expr.ensures ∙ c.in-Alt.is) refl in
     let s = c.args.self.now in
     let u = c.lay_alternation.new.self in
-    subst (λ e. Lays (laid_joined c.args.may_join a.tree e) (texts_of e) s u c.lay_alternation.result) (sym tree)
-    (lays_parts (one_of (each_laid_joined c.args.may_join a.tree (trees_of kids))) (plain_tree.Alt (trees_of kids)) tt s u c.lay_alternation.result
-    (subst (λ l. Lays (one_of (each_laid_joined c.args.may_join a.tree (trees_of l))) (texts_in (trees_of l)) s u c.lay_alternation.result) c.children-in-Alt.ensures
+    subst (λ e. Lays (laid a.tree e) (texts_of e) s u c.lay_alternation.result) (sym tree)
+    (lays_parts (one_of (each_laid a.tree (trees_of kids))) (plain_tree.Alt (trees_of kids)) tt s u c.lay_alternation.result
+    (subst (λ l. Lays (one_of (each_laid a.tree (trees_of l))) (texts_in (trees_of l)) s u c.lay_alternation.result) c.children-in-Alt.ensures
     (c.lay_alternation.ensures a (easy_kids info a easy plain_tree.Alt (easy_alt a) tree _ c.children-in-Alt.ensures))))
 
 pub lay-returns-in-Group : goal.lay-returns-in-Group
@@ -116,9 +112,9 @@ lay-returns-in-Group t c = λ a easy.
     let known = easy_body info a easy body _ at refl c.only_child.ensures (λ h. (easy_group a g (info_tree body) h).1) in
     let s = c.args.self.now in
     let u = c.lay_group.new.self in
-    subst (λ e. Lays (laid_joined c.args.may_join a.tree e) (texts_of e) s u c.lay_group.result) (sym tree)
-    (lays_part (group_code g (laid_joined c.args.may_join a.tree (info_tree body))) (plain_tree.Group g (info_tree body)) tt s u c.lay_group.result (info_tree body) refl
-    (subst (λ n. Lays (group_code n (laid_joined c.args.may_join a.tree (info_tree body))) (texts_of (info_tree body)) s u c.lay_group.result) c.start_group.ensures
+    subst (λ e. Lays (laid a.tree e) (texts_of e) s u c.lay_group.result) (sym tree)
+    (lays_part (group_code g (laid a.tree (info_tree body))) (plain_tree.Group g (info_tree body)) tt s u c.lay_group.result (info_tree body) refl
+    (subst (λ n. Lays (group_code n (laid a.tree (info_tree body))) (texts_of (info_tree body)) s u c.lay_group.result) c.start_group.ensures
     (c.lay_group.ensures a known)))
 
 pub lay-returns-in-Repeat : goal.lay-returns-in-Repeat
@@ -129,8 +125,8 @@ lay-returns-in-Repeat t c = λ a easy.
     let tree = tree_over info a easy body _ at refl c.only_child-in-Repeat.ensures in
     let known = easy_body info a easy body _ at refl c.only_child-in-Repeat.ensures
     (easy_repeat a c.in-Repeat.lo (bound_of c.in-Repeat.hi) c.in-Repeat.greedy (info_tree body)) in
-    subst (λ e. Lays (laid_joined c.args.may_join a.tree e) (texts_of e) c.args.self.now c.lay_joined.new.self c.lay_joined.result) (sym tree)
-    (c.lay_joined.ensures a known)
+    subst (λ e. Lays (laid a.tree e) (texts_of e) c.args.self.now c.lay_repeat.new.self c.lay_repeat.result) (sym tree)
+    (c.lay_repeat.ensures a known)
 
 -- ---- a sequence
 
@@ -157,7 +153,7 @@ lay_each-loop-info-preserved t c =
       unicode = (c.in_ok-lay.ensures c.requires.0 own).added.unicode ∙ c.loop-info.invariant.unicode;
       goes = λ a each u left.
           c.loop-info.invariant.goes a each u
-          (sequence_step c.args.may_join a infos i x lt c.info-item.is c.loop-info.self c.lay.new.self u
+          (sequence_step a infos i x lt c.info-item.is c.loop-info.self c.lay.new.self u
           (c.in_ok-lay.ensures a (each_at (IsEasy a) infos i x each lt c.info-item.is)) left);
     }
 
@@ -167,30 +163,30 @@ lay_each-returns-in_err-lay t c = λ a each.
     let x = c.info-item.result in
     let infos = c.args.infos.now in
     let lt : i < length infos = omega arith in
-    lays_fault_at (in_sequence (each_laid_joined c.args.may_join a.tree (trees_of infos))) infos c.args.self.now c.lay.new.self _ c.in_err-lay.field-0.0 i x _ lt
+    lays_fault_at (in_sequence (each_laid a.tree (trees_of infos))) infos c.args.self.now c.lay.new.self _ c.in_err-lay.field-0.0 i x _ lt
     c.info-item.is c.from_residual.ensures c.loop-info.invariant.unicode
     (c.in_err-lay.ensures a (each_at (IsEasy a) infos i x each lt c.info-item.is))
 
 pub lay_each-returns : goal.lay_each-returns
 lay_each-returns t c = λ a each.
-    c.loop-info.invariant.goes a each c.loop-info.self (sequence_end c.args.may_join a c.args.infos.now c.loop-info.info-index c.loop-info.self (omega arith))
+    c.loop-info.invariant.goes a each c.loop-info.self (sequence_end a c.args.infos.now c.loop-info.info-index c.loop-info.self (omega arith))
 
 -- ---- branches
 
 pub lay_alternation-returns-in_err-lay_branches : goal.lay_alternation-returns-in_err-lay_branches
 lay_alternation-returns-in_err-lay_branches t c = λ a each.
-    let cs = each_laid_joined c.args.may_join a.tree (trees_of c.args.infos.now) in
+    let cs = each_laid a.tree (trees_of c.args.infos.now) in
     lays_fault (one_of cs) (texts_in (trees_of c.args.infos.now)) c.args.self.now _ _ _ c.from_residual.ensures (c.in_err-lay_branches.ensures a each)
 
 pub lay_alternation-returns : goal.lay_alternation-returns
 lay_alternation-returns t c = λ a each.
-    let cs = each_laid_joined c.args.may_join a.tree (trees_of c.args.infos.now) in
+    let cs = each_laid a.tree (trees_of c.args.infos.now) in
     lays_before (branches plain.Split cs) (one plain.Join) c.args.self.now c.lay_branches.new.self c.push.new.self (texts_in (trees_of c.args.infos.now))
     c.push.result (c.in_ok-lay_branches.ensures a each) c.push.ensures
 
 pub lay_branch-returns-clause-lays : goal.lay_branch-returns-clause-lays
 lay_branch-returns-clause-lays t c = λ a easy.
-    let body = laid_joined c.args.may_join a.tree (info_tree c.args.info.now) in
+    let body = laid a.tree (info_tree c.args.info.now) in
     let texts = texts_of (info_tree c.args.info.now) in
     let s = c.args.self.now in
     let t1 = c.push.new.self in
@@ -228,7 +224,7 @@ pub lay_branches-loop-i-init : goal.lay_branches-loop-i-init
 lay_branches-loop-i-init t c = record {
   same = same_states c.args.self.now;
   goes = λ a each.
-      let all = with_branches c.args.may_join a c.args.self.now true c.args.infos.now in ap (λ js. with_jumps js (length all) all) c.in_ok-jumps.ensures.items;
+      let all = with_branches a c.args.self.now true c.args.infos.now in ap (λ js. with_jumps js (length all) all) c.in_ok-jumps.ensures.items;
   classes = λ a each h. h;
 }
 
@@ -248,11 +244,11 @@ lay_branches-loop-i-preserved t c =
       same = replaced_same _ s t2 (replaced_then _ _ s t1 t2 c.loop-i.invariant.same (c.in_ok-jump.ensures.lays c.requires.0 own).added);
       goes = λ a each.
           let laid_one = c.in_ok-jump.ensures.lays a (each_at (IsEasy a) infos i x each lt c.index-infos-i.is) in
-          let all = with_branches c.args.may_join a t2 false rest in
-          subst (λ b. with_jumps c.push.new.self.items (length (with_branches c.args.may_join a t2 b rest)) (with_branches c.args.may_join a t2 b rest) ≡ with_branches c.args.may_join a s true infos)
+          let all = with_branches a t2 false rest in
+          subst (λ b. with_jumps c.push.new.self.items (length (with_branches a t2 b rest)) (with_branches a t2 b rest) ≡ with_branches a s true infos)
           (sym further)
           (ap (λ js. with_jumps js (length all) all) {y = c.loop-i.jumps.items ++ c.in_ok-jump.jump ∷ []} c.in_ok-push.ensures.items
-          ∙ branch_step c.args.may_join a infos i x lt c.index-infos-i.is (i == 0) t1 t2 more laid_one c.in_ok-jump.jump c.in_ok-jump.ensures.jump c.loop-i.jumps.items
+          ∙ branch_step a infos i x lt c.index-infos-i.is (i == 0) t1 t2 more laid_one c.in_ok-jump.jump c.in_ok-jump.ensures.jump c.loop-i.jumps.items
           ∙ c.loop-i.invariant.goes a each);
       classes = λ a each left.
           let laid_one = c.in_ok-jump.ensures.lays a (each_at (IsEasy a) infos i x each lt c.index-infos-i.is) in
@@ -267,7 +263,7 @@ lay_branches-returns-in_err-jump t c = λ a each.
     let x = c.index-infos-i.result in
     let infos = c.args.infos.now in
     let lt : i < length infos = omega arith in
-    lays_fault_at (branches plain.Split (each_laid_joined c.args.may_join a.tree (trees_of infos))) infos c.args.self.now c.lay_branch.new.self _ c.in_err-jump.field-0.0
+    lays_fault_at (branches plain.Split (each_laid a.tree (trees_of infos))) infos c.args.self.now c.lay_branch.new.self _ c.in_err-jump.field-0.0
     i x _ lt c.index-infos-i.is c.from_residual-in_err-jump.ensures c.loop-i.invariant.same.unicode
     (c.in_err-jump.ensures.lays a (each_at (IsEasy a) infos i x each lt c.index-infos-i.is))
 
@@ -277,7 +273,7 @@ lay_branches-returns-in_err-lay t c = λ a each.
     let infos = c.args.infos.now in
     let last = length infos - 1 in
     let lt : last < length infos = omega (arith, c.if-count-eq0.false) in
-    lays_fault_at (branches plain.Split (each_laid_joined c.args.may_join a.tree (trees_of infos))) infos c.args.self.now c.lay.new.self _ c.in_err-lay.field-0.0 last x _
+    lays_fault_at (branches plain.Split (each_laid a.tree (trees_of infos))) infos c.args.self.now c.lay.new.self _ c.in_err-lay.field-0.0 last x _
     lt c.index-infos-count.is c.from_residual-in_err-lay.ensures c.loop-i.invariant.same.unicode
     (c.in_err-lay.ensures a (each_at (IsEasy a) infos last x each lt c.index-infos-count.is))
 
@@ -295,8 +291,8 @@ lay_branches-returns t c = λ a each.
     let t2 = c.lay.new.self in
     let u = c.patch_jumps.new.self in
     let last : length infos ≤ i + 1 = omega arith in
-    let left = with_branches c.args.may_join a t1 (i == 0) (drop i infos) in
-    let all = ap (λ l. with_jumps c.loop-i.jumps.items (length l) l) {y = left} (sym (branch_end c.args.may_join a infos i x lt at (i == 0) t1 t2 last laid_one))
+    let left = with_branches a t1 (i == 0) (drop i infos) in
+    let all = ap (λ l. with_jumps c.loop-i.jumps.items (length l) l) {y = left} (sym (branch_end a infos i x lt at (i == 0) t1 t2 last laid_one))
     ∙ c.loop-i.invariant.goes a each in record {
       added = subst (λ l. Replaces l s u) all
           (replaced_then _ _ s t2 u (replaced_then _ _ s t1 t2 c.loop-i.invariant.same laid_one.added) c.patch_jumps.ensures);
@@ -310,7 +306,7 @@ lay_branches-returns t c = λ a each.
 
 pub lay_group-returns : goal.lay_group-returns
 lay_group-returns t c = λ a easy.
-    let body = laid_joined c.args.may_join a.tree (info_tree c.args.body.now) in
+    let body = laid a.tree (info_tree c.args.body.now) in
     let texts = texts_of (info_tree c.args.body.now) in
     let close : NfaCode = one (plain.Close c.args.group) in
     lays_behind (one plain.Open) (body >> close) c.args.self.now c.push.new.self c.push-2.new.self texts c.push-2.result c.in_ok-push.ensures
@@ -318,7 +314,7 @@ lay_group-returns t c = λ a easy.
 
 pub lay_at_most_once-returns : goal.lay_at_most_once-returns
 lay_at_most_once-returns t c = λ a easy.
-    let body = laid_joined c.args.may_join a.tree (info_tree c.args.body.now) in
+    let body = laid a.tree (info_tree c.args.body.now) in
     let texts = texts_of (info_tree c.args.body.now) in
     let s = c.args.self.now in
     let t2 = c.lay.new.self in
@@ -333,7 +329,7 @@ lay_at_most_once-returns t c = λ a easy.
 
 pub lay_star-returns : goal.lay_star-returns
 lay_star-returns t c = λ a easy.
-    let body = laid_joined c.args.may_join a.tree (info_tree c.args.body.now) in
+    let body = laid a.tree (info_tree c.args.body.now) in
     let texts = texts_of (info_tree c.args.body.now) in
     let s = c.args.self.now in
     let t3 = c.push-2.new.self in
@@ -346,7 +342,7 @@ lay_star-returns t c = λ a easy.
 
 pub lay_plus-returns : goal.lay_plus-returns
 lay_plus-returns t c = λ a easy.
-    let body = laid_joined c.args.may_join a.tree (info_tree c.args.body.now) in
+    let body = laid a.tree (info_tree c.args.body.now) in
     let texts = texts_of (info_tree c.args.body.now) in
     let s = c.args.self.now in
     let u = c.lay_star.new.self in
@@ -359,7 +355,7 @@ lay_plus-returns t c = λ a easy.
 
 pub lay_counted-returns : goal.lay_counted-returns
 lay_counted-returns t c = λ a easy.
-    let body = laid_joined c.args.may_join a.tree (info_tree c.args.body.now) in
+    let body = laid a.tree (info_tree c.args.body.now) in
     let texts = texts_of (info_tree c.args.body.now) in
     let s = c.args.self.now in
     let t1 = c.push.new.self in
@@ -379,102 +375,16 @@ pub lay_repeat-returns-in-Some : goal.lay_repeat-returns-in-Some
 lay_repeat-returns-in-Some t c = λ a easy.
     let i = c.args.body.now in
     let e = info_tree i in
-    let lo = c.args.bounds.lo in
-    let hi = bound_of c.args.bounds.hi in
-    let greedy = c.args.bounds.greedy in
+    let lo = c.args.lo in
+    let hi = bound_of c.args.hi in
+    let greedy = c.args.greedy in
     let s = c.args.self.now in
     let u = c.lay_loop.new.self in
     let r = c.lay_loop.result in
-    let j = c.args.may_join in
-    let is : form_of (Some c.in-Some.form) ≡ loop_form lo hi ((size a.tree (joined j e)).least == 0) =
+    let is : form_of (Some c.in-Some.form) ≡ loop_form lo hi ((size a.tree e).least == 0) =
     ap form_of (sym c.in-Some.is) ∙ c.loop_form.ensures
     ∙ ap (λ n. loop_form lo hi (n == 0))
-    (c.min_size.ensures ∙ ap (λ (z : Size). z.least) (easy_size a i easy) ∙ (size_keeps j (known_of a.tree) None e).least) in
-    let code = repeated greedy (laid_joined c.args.may_join a.tree e) (loop_form lo hi ((size a.tree (joined j e)).least == 0)) in
+    (c.min_size.ensures ∙ ap (λ (z : Size). z.least) (easy_size a i easy)) in
+    let code = repeated greedy (laid a.tree e) (loop_form lo hi ((size a.tree e).least == 0)) in
     lays_part code (plain_tree.Repeat lo hi greedy e) tt s u r e (repeat_parts lo hi greedy e (form_enters c.in-Some.form lo hi _ is))
-    (subst (λ f. Lays (repeated greedy (laid_joined c.args.may_join a.tree e) f) (texts_of e) s u r) is (c.lay_loop.ensures a easy))
-
--- ---- a loop that may be joined with those in it
-
-pub lay_joined-only_child-requires : goal.lay_joined-only_child-requires
-lay_joined-only_child-requires t c =
-    let body = c.args.body.now in
-    omega (arith, has_one body c.requires.0 c.requires.1 body _ (sym c.expr.ensures ∙ c.in-Repeat.is) refl)
-
-pub lay_joined-lay_joined-requires : goal.lay_joined-lay_joined-requires
-lay_joined-lay_joined-requires t c =
-    let body = c.args.body.now in
-    let child = c.only_child.result.now in
-    let a = c.requires.0 in
-    let at = sym c.expr.ensures ∙ c.in-Repeat.is in
-    let one = c.only_child.ensures in (
-      omega (arith, smaller_child body a c.requires.1 child _ at refl one),
-      (
-        a,
-        easy_body body a c.requires.1 child _ at refl one
-            (easy_repeat a c.in-Repeat.lo (bound_of c.in-Repeat.hi) c.in-Repeat.greedy (info_tree child)),
-      ),
-    )
-
-pub lay_joined-returns-in-Some : goal.lay_joined-returns-in-Some
-lay_joined-returns-in-Some t c = λ a easy.
-    let body = c.args.body.now in
-    let child = c.only_child.result.now in
-    let at = sym c.expr.ensures ∙ c.in-Repeat.is in
-    let tree = tree_over body a easy child _ at refl c.only_child.ensures in
-    let b = bounds_of c.args.bounds in
-    let lo = c.in-Repeat.lo in
-    let hi = bound_of c.in-Repeat.hi in
-    let greedy = c.in-Repeat.greedy in
-    let e = info_tree child in
-    let known = easy_body body a easy child _ at refl c.only_child.ensures (easy_repeat a lo hi greedy e) in
-    let j = c.args.may_join in
-    let m = c.in-Some.joined.lo in
-    let n = bound_of c.in-Some.joined.hi in
-    let o = c.in-Some.joined.greedy in
-    let found = c.in-Some.ensures in
-    let s = c.args.self.now in
-    let u = c.lay_joined.new.self in
-    let r = c.lay_joined.result in
-    let same = same_texts j b lo hi greedy e found.0 m n o found.1 found.2 found.3 in
-    subst (λ d. Lays (laid a.tree (joined_in j (Some b) d)) (texts_of (plain_tree.Repeat b.lo b.hi b.greedy d)) s u r) (sym tree)
-    (lays_by (laid a.tree (joined_in j (Some b) (plain_tree.Repeat lo hi greedy e))) (texts_of (plain_tree.Repeat m n o e))
-    (texts_of (plain_tree.Repeat b.lo b.hi b.greedy (plain_tree.Repeat lo hi greedy e))) s u (λ inner casei. (same inner casei).0)
-    (λ inner casei. (same inner casei).1) r
-    (subst (λ d. Lays (laid a.tree d) (texts_of (plain_tree.Repeat m n o e)) s u r)
-    (joined_step j b lo hi greedy e found.0 m n o found.1 found.2 found.3) (c.lay_joined.ensures a known)))
-
-pub lay_joined-returns-in-None : goal.lay_joined-returns-in-None
-lay_joined-returns-in-None t c = λ a easy.
-    let body = c.args.body.now in
-    let b = bounds_of c.args.bounds in
-    let kids = info_children body in
-    let e = nth (trees_of kids) 0 in
-    let lo = c.in-Repeat.lo in
-    let hi = bound_of c.in-Repeat.hi in
-    let greedy = c.in-Repeat.greedy in
-    let tree = tree_by body _ kids (sym c.expr.ensures ∙ c.in-Repeat.is) refl in
-    let j = c.args.may_join in
-    let s = c.args.self.now in
-    let u = c.lay_repeat.new.self in
-    let r = c.lay_repeat.result in
-    let over : plain_tree.Tree → plain_tree.Tree = λ d. plain_tree.Repeat b.lo b.hi b.greedy d in
-    subst (λ d. Lays (laid a.tree (joined_in j (Some b) d)) (texts_of (over d)) s u r) (sym tree)
-    (subst (λ d. Lays (laid a.tree d) (texts_of (over (plain_tree.Repeat lo hi greedy e))) s u r)
-    (left_step j b lo hi greedy e c.in-None.ensures)
-    (subst (λ d. Lays (laid a.tree (over (joined j d))) (texts_of (over d)) s u r) tree (c.lay_repeat.ensures a easy)))
-
-pub lay_joined-returns-in_default : goal.lay_joined-returns-in_default
-lay_joined-returns-in_default t c = λ a easy.
-    let body = c.args.body.now in
-    let b = bounds_of c.args.bounds in
-    let kids = info_children body in
-    let tree = tree_by body _ kids (sym c.expr.ensures) refl in
-    let j = c.args.may_join in
-    let as_one : joined_in j (Some b) (info_tree body) ≡ plain_tree.Repeat b.lo b.hi b.greedy (joined j (info_tree body)) =
-    subst (λ d. joined_in j (Some b) d ≡ plain_tree.Repeat b.lo b.hi b.greedy (joined j d)) (sym tree)
-    (apart j b _ (out-Info body).start_group (info_within body) (trees_of kids) c.in_default.not-Repeat) in
-    subst
-    (λ d. Lays (laid a.tree d) (texts_of (plain_tree.Repeat b.lo b.hi b.greedy (info_tree body))) c.args.self.now c.lay_repeat-in_default.new.self
-    c.lay_repeat-in_default.result)
-    (sym as_one) (c.lay_repeat-in_default.ensures a easy)
+    (subst (λ f. Lays (repeated greedy (laid a.tree e) f) (texts_of e) s u r) is (c.lay_loop.ensures a easy))

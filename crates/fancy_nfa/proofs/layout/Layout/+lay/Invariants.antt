@@ -28,9 +28,6 @@ decreases-lay_branch l = 8 * node_count l.info.now + 1
 abbrev pub decreases-lay_group : goal.decreases-lay_group
 decreases-lay_group l = 8 * node_count l.body.now + 1
 
-abbrev pub decreases-lay_joined : goal.decreases-lay_joined
-decreases-lay_joined l = 8 * node_count l.body.now + 5
-
 abbrev pub decreases-lay_repeat : goal.decreases-lay_repeat
 decreases-lay_repeat l = 8 * node_count l.body.now + 4
 
@@ -53,15 +50,15 @@ decreases-lay_at_most_once l = 8 * node_count l.body.now + 1
 abbrev pub invariant-lay_each-loop-info : goal.invariant-lay_each-loop-info
 invariant-lay_each-loop-info l = record {
   unicode : l.self.unicode ≡ l.fn.self.unicode;
-  goes : (a : Analysis) → Each (IsEasy a) l.infos → (u : Layout) → AddsEach l.may_join a (drop l.info-index l.infos) l.self u → AddsEach l.may_join a l.infos l.fn.self u;
+  goes : (a : Analysis) → Each (IsEasy a) l.infos → (u : Layout) → AddsEach a (drop l.info-index l.infos) l.self u → AddsEach a l.infos l.fn.self u;
 }
 
 abbrev pub invariant-lay_branches-loop-i : goal.invariant-lay_branches-loop-i
 invariant-lay_branches-loop-i l = record {
   same : Replaces (states_in l.self) l.fn.self l.self;
   goes : (a : Analysis) → Each (IsEasy a) l.infos →
-      with_jumps l.jumps.items (length (with_branches l.may_join a l.self (l.i == 0) (drop l.i l.infos))) (with_branches l.may_join a l.self (l.i == 0) (drop l.i l.infos))
-      ≡ with_branches l.may_join a l.fn.self true l.infos;
+      with_jumps l.jumps.items (length (with_branches a l.self (l.i == 0) (drop l.i l.infos))) (with_branches a l.self (l.i == 0) (drop l.i l.infos))
+      ≡ with_branches a l.fn.self true l.infos;
   classes : (a : Analysis) → Each (IsEasy a) l.infos → AreClasses l.fn.self.unicode (texts_in (trees_of (drop l.i l.infos))) →
       AreClasses l.fn.self.unicode (texts_in (trees_of l.infos));
 }

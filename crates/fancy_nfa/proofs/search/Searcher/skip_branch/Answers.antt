@@ -11,8 +11,8 @@ returns c = λ s.
     let place = c.args.place in
     let first = c.first_branch-first.result.0 in
     let second = c.in-Some.second in
-    let is_lost = c.fails_branch-is_lost.result in
+    let is_lost = c.fails_from-is_lost.result in
     let h : AreBranches searcher at first second =
     subst (λ o. IfSome o (λ other. AreBranches searcher at first other)) c.in-Some.is c.first_branch-first.ensures.branches in
     subst (λ i. Walks searcher is_lost (config_at s at place) (config_at s i place)) (sym c.chosen.ensures)
-    (chosen_of searcher s at first second place is_lost (branches_choice searcher at first second h) c.fails_branch-is_lost.ensures)
+    (chosen_of searcher s at first second place is_lost (branches_choice searcher at first second h) c.fails_from-is_lost.ensures)

@@ -103,11 +103,11 @@ returns-in_default-body_at c = λ s.
     ∙ ap Some c.in-Some-LoopSplit.field-0-is in
     let first = c.in-Some-LoopSplit.first in
     let second = c.in-Some-LoopSplit.second in
-    let is_lost = c.fails_soon.result in
+    let is_lost = c.fails_from.result in
     let next = if is_lost then second else first in
     subst (λ i. Walks searcher false (config_at s at place) (config_at s i place)) (sym c.chosen-next.ensures)
     (unsure_by searcher is_lost (config_at s at place) (config_at s next place)
-    (chosen_of searcher s at first second place is_lost (loop_choice searcher at first second there) c.fails_soon.ensures))
+    (chosen_of searcher s at first second place is_lost (loop_choice searcher at first second there) c.fails_from.ensures))
 
 pub returns-in-Some-Join : goal.returns-in-Some-Join
 returns-in-Some-Join c = λ s.
@@ -140,11 +140,3 @@ returns-in-Some-Close c = λ s opened is.
     let there = slice_get_read states (length states) at c.in-Some-Close.field-0.now refl (ltb-true at (length states) (sym found.0)) found.1
     ∙ ap Some c.in-Some-Close.field-0-is in
     closes searcher c.in-Some-Close.group s at c.args.place there opened is
-
-pub skip_counted-requires-clause-at : goal.skip_counted-requires-clause-at
-skip_counted-requires-clause-at c =
-    let states = c.args.self.now.states.now in
-    let at = c.args.at in
-    let found = c.in-Some-CounterBegin.ensures.lookup in
-    slice_get_read states (length states) at c.in-Some-CounterBegin.field-0.now refl (ltb-true at (length states) (sym found.0)) found.1
-    ∙ ap Some c.in-Some-CounterBegin.field-0-is

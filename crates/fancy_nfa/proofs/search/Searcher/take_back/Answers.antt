@@ -1,20 +1,16 @@
-use Rattle.std.proofs.Common.{◌≡◌, ◌+◌, true≢false, refl, sym, ap, ◌∙◌, subst, arith, suc, true, length}
+use Rattle.std.proofs.Common.{refl, sym, ap, ◌∙◌, subst, arith, suc, true, false, length}
 use Rattle.fancy_nfa_laws.specs.NfaSearch as plain
-use Rattle.fancy_nfa_laws.specs.NfaSearch.{Next, Search, TakesBack, TakesUp, pair_of}
-use Rattle.fancy_backtrack.specs.Memos.{AreKept, IsSearch, fails_before, Keeps}
+use Rattle.fancy_nfa_laws.specs.NfaSearch.{Search, TakesBack, pair_of}
+use Rattle.fancy_backtrack.specs.Memos.{AreKept, fails_before, Keeps}
 use Rattle.fancy_nfa.specs.Searches.{continuation_of}
 use Rattle.std.proofs.lemmas.Result.{err_from_is_err_and}
 use Rattle.fancy_backtrack.specs.declared.memo.Memo.{Memo}
 use Rattle.fancy_backtrack.specs.BacktrackStack.{choices_of}
 use Rattle.fancy_backtrack.specs.PairKeys.{key_of}
 use Rattle.fancy_backtrack.specs.FailedPairs.{has_pair}
-use Rattle.fancy_nfa.specs.Runs.{IsLostAt, lost_visits}
-use Rattle.fancy_nfa.proofs.BackLaws.{goes_back, none_kept, one_more, popped, search_memoized}
+use Rattle.fancy_nfa.proofs.BackLaws.{back_memoized, goes_back, none_kept, one_more, popped, search_memoized}
 use Rattle.fancy_nfa_laws.specs.FirstWays.{search_in}
-use Rattle.fancy_nfa.proofs.RunLaws.{back_gone}
-use Rattle.fancy_backtrack.proofs.MemoLaws.{here_by, more_states}
 use Rattle.fancy_nfa.proofs.search.Searcher.take_back.Goals as goal
-use Rattle.fancy_nfa.proofs.search.Searcher.take_back.Goals.{else-choice-via-then-choice+else-not-is_lost, else-choice-via-else-choice}
 
 -- src/search.rt
 pub frames-init : goal.frames-init
@@ -23,9 +19,8 @@ frames-init c = (λ f h. (0, (f, (refl, h))), refl)
 pub frames-smaller : goal.frames-smaller
 frames-smaller c =
     let same = ap (λ (m : Memo). length (choices_of m.frames)) c.add_failed.ensures.rest in
-    let counted = ap (λ (m : Memo). length (choices_of m.frames)) c.count_more.ensures in
     let shorter = ap length c.in-Some.ensures.choices in
-    omega (arith, same, counted, shorter)
+    omega (arith, same, shorter)
 
 pub frames-preserved : goal.frames-preserved
 frames-preserved c = (
@@ -34,37 +29,23 @@ frames-preserved c = (
       let continuation = continuation_of searcher in
       let back = c.frames.invariant.0 f h in
       let g = back.1.0 in
-      let choice = c.in-Some.choice in
       let cut = c.pop.new.self in
       let same = c.pop.ensures.rest in
-      let last = popped continuation c.frames.m cut choice g c.in-Some.ensures.choices c.in-Some.ensures.path
+      let last = popped continuation c.frames.m cut c.in-Some.choice g c.in-Some.ensures.choices c.in-Some.ensures.path
       (ap (λ (m : Memo). m.failed) same) (ap (λ (m : Memo). m.visits) same) back.1.1.1 in
-      let lost : choice.is_untried ≡ true → IsLostAt searcher choice.config.at choice.config.place =
-      elim c.else-choice.branch [
-        | else-choice-via-then-choice+else-not-is_lost w ↦ λ _. w.is_lost.ensures w.if-not-is_lost.false
-        | else-choice-via-else-choice w ↦ λ yes. absurd (true≢false (sym yes ∙ w.if-choice.false))
-      ] in
-      let gone = back_gone searcher (TakesBack f) back.0 g choice.config last.config last.rest back.1.1.0 last.here.at last.here.place choice.is_untried
-      lost last.keeps in
-      let n = lost_visits choice.is_untried in
+      let keeps = subst (λ b. Keeps b (continuation last.config) last.config last.rest g.frames) {y = false} c.if-choice.false last.keeps in
       let left : Search = record g { frames = last.rest } in
-      let counted = c.count_more.new.self in
-      let here = here_by cut counted choice.config last.config (ap (λ (m : Memo). m.trail) c.count_more.ensures) last.here in
-      let more = subst (λ k. IsSearch continuation counted (record left { visits = g.visits + k })) c.lost_visits.ensures
-      (more_states continuation cut left last.search counted c.lost_visits.result c.count_more.ensures) in
-      let memoized = c.in_ok-add_failed.ensures.ok last.config (record left { visits = g.visits + n }) here more.failed in (
-        gone.0,
+      let memoized = c.in_ok-add_failed.ensures.ok last.config left last.here last.search.failed in (
+        suc back.0,
         (
-          plain.with_failed (pair_of last.config) (record left { visits = g.visits + n }),
+          plain.with_failed (pair_of last.config) left,
           (
-            gone.1,
-            search_memoized continuation counted c.add_failed.new.self (record left { visits = g.visits + n }) (pair_of last.config)
-                c.add_failed.ensures.rest memoized more,
+            back_memoized searcher (TakesBack f) back.0 g last.config last.rest back.1.1.0 keeps,
+            search_memoized continuation cut c.add_failed.new.self left (pair_of last.config) c.add_failed.ensures.rest memoized last.search,
           ),
         ),
       ),
-  ap (λ (m : Memo). m.budget) c.add_failed.ensures.rest ∙ ap (λ (m : Memo). m.budget) c.count_more.ensures
-      ∙ ap (λ (m : Memo). m.budget) c.pop.ensures.rest ∙ c.frames.invariant.1,
+  ap (λ (m : Memo). m.budget) c.add_failed.ensures.rest ∙ ap (λ (m : Memo). m.budget) c.pop.ensures.rest ∙ c.frames.invariant.1,
 )
 
 pub returns-in_err-add_failed-clause-leads : goal.returns-in_err-add_failed-clause-leads
@@ -81,13 +62,12 @@ returns-in_err-add_failed-clause-leads c = λ f h.
     rw p.1 (
       back.0,
       λ q.
-          c.in_err-add_failed.ensures.err g.failed
-          (λ k. ap (λ (m : Memo). has_pair m.failed (key_of k)) c.count_more.ensures ∙ last.search.failed k) q
+          c.in_err-add_failed.ensures.err g.failed last.search.failed q
           ∙ sym (ap (λ n. (search_in n).failed q) back.1.1.0),
     )
 
-pub returns-then-not-is_lost-clause-leads : goal.returns-then-not-is_lost-clause-leads
-returns-then-not-is_lost-clause-leads c = λ f h.
+pub returns-then-choice-clause-leads : goal.returns-then-choice-clause-leads
+returns-then-choice-clause-leads c = λ f h.
     let searcher = c.args.self.now in
     let continuation = continuation_of searcher in
     let back = c.frames.invariant.0 f h in

@@ -1,6 +1,5 @@
 use Rattle.std.proofs.Common.{refl, sym, ap, ◌∙◌, subst, ◌≤◌, ◌+◌, ◌∷◌, Some, None, false, length}
 use Rattle.fancy_nfa_laws.specs.NfaSearch as plain
-use Rattle.fancy_nfa_laws.specs.NfaSearch.{Next, Search, TakesBack, TakesUp, pair_of}
 use Rattle.fancy_backtrack.specs.Paths.{HasCounters}
 use Rattle.fancy_nfa.specs.Views.{state_of}
 use Rattle.fancy_backtrack.specs.Memos.{IsHere}
@@ -66,6 +65,15 @@ returns-in-Join-clause-leads c = λ s f h here.
     let there = c.requires.at ∙ ap Some c.in-Join.is in
     comes_by c.args.self.now s f c.join.result c.join.new.self (at_step searcher nfa_state.Join c.args.config s f here.at there c.join.result c.join.new.self
     (c.join.ensures.leads (continuation_of searcher) s f h here (steps_by searcher nfa_state.Join c.args.config s here.at there)))
+
+pub returns-in-CounterLoop-clause-leads : goal.returns-in-CounterLoop-clause-leads
+returns-in-CounterLoop-clause-leads c = λ s f h here.
+    let searcher = c.args.self.now in
+    let p = nfa_state.CounterLoop c.in-CounterLoop.bounds c.in-CounterLoop.after in
+    let there = c.requires.at ∙ ap Some c.in-CounterLoop.is in
+    comes_by searcher s f c.counter_loop.result c.counter_loop.new.self
+    (at_step searcher p c.args.config s f here.at there c.counter_loop.result c.counter_loop.new.self
+    (c.counter_loop.ensures.leads (continuation_of searcher) s f h here (steps_by searcher p c.args.config s here.at there)))
 
 -- src/search.rt:443:5
 pub returns-in-Split-clause-leads : goal.returns-in-Split-clause-leads

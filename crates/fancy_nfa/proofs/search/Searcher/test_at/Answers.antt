@@ -2,7 +2,7 @@ use Rattle.std.proofs.Common.{Some, length, refl, sym, ap, ◌∙◌, subst}
 use Rattle.std.proofs.lemmas.Bool.{ltb-true}
 use Rattle.std.proofs.lemmas.Option.{slice_get_read}
 use Rattle.fancy_nfa.specs.Views.{IsStateReadBy}
-use Rattle.fancy_nfa.proofs.RunLaws.{fails_at_once, test_fails}
+use Rattle.fancy_nfa.proofs.RunLaws.{test_fails}
 use Rattle.fancy_nfa.proofs.search.Searcher.test_at.Goals as goal
 
 pub returns-in-Some-Character-clause-read : goal.returns-in-Some-Character-clause-read
@@ -25,4 +25,4 @@ returns-in-Some-Character-clause-exit c = λ place none.
     ∙ ap Some c.in-Some-Character.field-0-is in
     c.behind_jump.ensures.fails place
     (c.behind_groups.ensures place
-    (fails_at_once searcher at place (test_fails searcher c.in-Some-Character.test at place there none)))
+    (test_fails searcher c.in-Some-Character.test at place there none))

@@ -1,7 +1,6 @@
 use Rattle.std.proofs.Common.{sym, subst}
 use Rattle.fancy_nfa_laws.specs.NfaSearch.{first_config}
-use Rattle.fancy_nfa.specs.CountedWays.{ComesPast}
-use Rattle.fancy_nfa.specs.OnePass.{Walks, config_at}
+use Rattle.fancy_nfa.specs.OnePass.{ComesPast, Walks, config_at}
 use Rattle.fancy_nfa.proofs.OnePassLaws.{both_sure, ends_bare, finds_end, finds_none, stays}
 use Rattle.fancy_nfa.proofs.search.Searcher.walk.Goals as goal
 

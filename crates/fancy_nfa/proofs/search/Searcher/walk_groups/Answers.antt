@@ -1,7 +1,6 @@
-use Rattle.std.proofs.Common.{[], ◌∷◌, ◌&&◌, true, refl, sym, subst}
+use Rattle.std.proofs.Common.{◌∷◌, refl, sym, subst}
 use Rattle.fancy_nfa_laws.specs.NfaSearch.{first_config}
-use Rattle.fancy_nfa.specs.CountedWays.{ComesPast}
-use Rattle.fancy_nfa.specs.OnePass.{Walks, closed_at, config_at, opened_at}
+use Rattle.fancy_nfa.specs.OnePass.{ComesPast, Walks, closed_at, config_at, opened_at}
 use Rattle.fancy_nfa.proofs.OnePassLaws.{both_sure, finds_end, finds_none, onward, stays}
 use Rattle.fancy_nfa.proofs.search.Searcher.walk_groups.Goals as goal
 

@@ -3,8 +3,8 @@ use Rattle.std.proofs.lemmas.Simd.{length-chunk}
 use Rattle.fancy_program.proofs.VectorScanLaws.{candidates_are}
 use Rattle.fancy_program.proofs.vector_scan.Needles.candidates.Goals as goal
 
-pub found-requires-clause-lanes : goal.found-requires-clause-lanes
-found-requires-clause-lanes g c = length-chunk c.args.pos 32 c.args.text.now (omega (arith, c.requires.room))
+pub found-requires : goal.found-requires
+found-requires c = length-chunk c.args.pos 32 c.args.text.now (omega (arith, c.requires))
 
 pub returns : goal.returns
-returns g c = candidates_are c.args.self c.args.text.now c.args.pos c.requires.room c.found.ensures
+returns c = candidates_are c.args.self c.args.text.now c.args.pos c.requires c.found.ensures

@@ -56,18 +56,6 @@ module _ (task : Task) (here new : Config) (passed : ℕ) (leads : machine.after
         ∙ sym (runs_past t passed (left - 1) (next_of t here) new leads)
         ∙ sym (exec_step t here left (next_of t here) some refl) ∙ same
 
-pub is_over-requires : goal.is_over-requires
-is_over-requires c =
-    let task = c.args.self.now.task in
-    let here = config_of c.steps.self in
-    let new = config_of c.step.new.self in
-    let leads = passed_leads c.step.new.self.task c.steps.self.task task here c.step.new.self.passed new c.in_ok-step.ensures.task c.steps.invariant.task
-    (rw c.in-Passed.is at c.in_ok-step.ensures.leads) in
-    let places = passed_places task here new c.step.new.self.passed leads c.requires.text c.steps.invariant.places in
-    record {
-      place = subst (λ (t : Task). IsTrue (is_place (t.text).now c.step.new.self.ix)) (sym (c.in_ok-step.ensures.task ∙ c.steps.invariant.task)) places.here;
-    }
-
 pub steps-preserved : goal.steps-preserved
 steps-preserved c =
     let task = c.args.self.now.task in
@@ -83,23 +71,6 @@ steps-preserved c =
       places = passed_places task here new passed leads c.requires.text c.steps.invariant.places;
       same = passed_same task here new passed leads left c.saturating_sub-left.result c.steps-test.true c.saturating_sub-left.ensures c.steps.invariant.same;
     }
-
-pub returns-then-is_over-clause-task : goal.returns-then-is_over-clause-task
-returns-then-is_over-clause-task c = c.in_ok-step.ensures.task ∙ c.steps.invariant.task
-
-pub returns-then-is_over-clause-finds : goal.returns-then-is_over-clause-finds
-returns-then-is_over-clause-finds c =
-    let task = c.args.self.now.task in
-    let here = config_of c.steps.self in
-    let now = c.step.new.self in
-    let new = config_of now in
-    let left : ℕ = c.steps.left in
-    let rest : ℕ = c.saturating_sub-left.result in
-    let leads = passed_leads now.task c.steps.self.task task here now.passed new c.in_ok-step.ensures.task c.steps.invariant.task
-    (rw c.in-Passed.is at c.in_ok-step.ensures.leads) in
-    sym (passed_same task here new now.passed leads left rest c.steps-test.true c.saturating_sub-left.ensures c.steps.invariant.same)
-    ∙ subst (λ (t : Task). machine.exec (plain_task t) rest new ≡ ending false now) (c.in_ok-step.ensures.task ∙ c.steps.invariant.task)
-    (c.is_over.ensures c.if-is_over.true)
 
 pub steps-preserved-in-On : goal.steps-preserved-in-On
 steps-preserved-in-On c =

@@ -1,5 +1,5 @@
 use Rattle.std.proofs.Common.{Box, Global, Some, ap, refl, subst, sym, ◌∙◌}
-use Rattle.fancy_fragments.specs.Fragments.{IsJoinedMemoFor}
+use Rattle.fancy_fragments.specs.Fragments.{IsMemoFor}
 use Rattle.fancy_backtrack.specs.declared.memo.Memo.{Memo}
 use Rattle.fancy_steps.specs.MemoRuns.{IsKeptAt}
 use Rattle.fancy_steps.proofs.MemosLaws.{memos_left, take_adds}
@@ -25,7 +25,7 @@ returns-in_err-new-in-None-clause-memos c =
 pub returns-in_ok-new-in-None-clause-note : goal.returns-in_ok-new-in-None-clause-note
 returns-in_ok-new-in-None-clause-note c =
     let text = c.args.task.now.text.now in
-    subst (IsJoinedMemoFor text c.args.fragment.now) (sym c.in_ok-new-in-None.ensures.ok) (c.joined_memo.ensures.memo text)
+    subst (IsMemoFor text c.args.fragment.now) (sym c.in_ok-new-in-None.ensures.ok) (c.memo.ensures.memo text)
 
 pub returns-in_ok-new-in-None-clause-memos : goal.returns-in_ok-new-in-None-clause-memos
 returns-in_ok-new-in-None-clause-memos c =
@@ -35,11 +35,11 @@ pub returns-after-run-self-clause-note : goal.returns-after-run-self-clause-note
 returns-after-run-self-clause-note c =
     let text = c.args.task.now.text.now in
     let f = c.args.fragment.now in
-    let is_memo : Box Memo Global → Type 0 = λ m. IsJoinedMemoFor text f m.value in
+    let is_memo : Box Memo Global → Type 0 = λ m. IsMemoFor text f m.value in
     let pc = c.args.pc in
     let found = c.in-Some.field-0 in
     elim c.if-run-self.branch [
-      | then-run-self w ↦ subst is_memo (sym w.memo-is) (w.clear_joined.ensures.memo text)
+      | then-run-self w ↦ subst is_memo (sym w.memo-is) (w.clear.ensures.memo text)
       | else-run-self w ↦
           subst is_memo (sym w.memo-is)
           (c.requires.memos.each pc found (c.in_ok-grow.ensures.same pc found (c.take_out.ensures.found ∙ ap Some c.in-Some.is)) w.if-run-self.false f

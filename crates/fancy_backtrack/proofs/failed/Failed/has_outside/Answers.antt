@@ -1,9 +1,0 @@
-use Rattle.std.proofs.Common.{ap, ◌∙◌, ◌∷◌, []}
-use Rattle.fancy_backtrack.specs.FailedPairs.{bit_is_set}
-use Rattle.fancy_backtrack.proofs.FailedLaws.{memoized_at}
-use Rattle.fancy_backtrack.proofs.failed.Failed.has_outside.Goals as goal
-
-pub returns-in-Some : goal.returns-in-Some
-returns-in-Some c =
-    c.has_bit.ensures ∙ ap (λ words. bit_is_set words c.in-Some.bit) c.deref.ensures.value
-    ∙ memoized_at c.args.self.now (c.args.at ∷ c.args.place ∷ []) _ c.in-Some.ensures

@@ -1,9 +1,0 @@
-use Rattle.std.proofs.Common.{◌∙◌}
-use Rattle.std.proofs.lemmas.List.{nil_from_length}
-use Rattle.fancy_backtrack.proofs.SparseLaws.{none_kept}
-use Rattle.fancy_backtrack.proofs.sparse_pairs.SparsePairs.clear.Goals as goal
-
-pub returns : goal.returns
-returns c =
-    none_kept _ (nil_from_length _ (c.shrink_to.ensures.entries.1 ∙ c.clear.ensures.len))
-    (nil_from_length _ (c.shrink_to-2.ensures.keys.1 ∙ c.clear-2.ensures.len))

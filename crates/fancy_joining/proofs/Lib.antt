@@ -1,5 +1,0 @@
-pub mod FindAlike
-pub mod AddedLoops
-pub mod JoinedWays
-pub mod JoinedSizes
-pub mod JoinedNodes

@@ -1,2 +1,0 @@
-pub mod JoinedLoops
-pub mod Claims
