@@ -1,50 +1,20 @@
 -- The links of a tree are its tracked calls, and lead to its outer groups.
-use Rattle.std.proofs.Common.{◌≡◌, ◌≢◌, ◌⊎◌, ℕ, Bool, true, false, not, ◌&&◌, ◌||◌, ◌==◌, if◌then◌else◌, List, [], ◌∷◌, filter_map, Contains, Option, Some, None, MatchOption, refl, sym, ap, ◌∙◌, subst, arith, inl, inr}
-use Rattle.std.specs.List.{cons_option}
+use Rattle.std.proofs.Common.{◌≡◌, ◌≢◌, ◌⊎◌, ℕ, Bool, true, false, not, ◌&&◌, ◌||◌, ◌==◌, if◌then◌else◌, List, [], ◌∷◌, ◌++◌, map, filter_map, Contains, Option, Some, None, MatchOption, refl, sym, ap, ◌∙◌, subst, arith, inl, inr}
+use Rattle.std.specs.List.{cons_option, list_any}
+use Rattle.std.proofs.lemmas.List.{map-append}
 use Rattle.std.proofs.lemmas.Bool.{eqb-true, eqb-false, eq-eqb, ne_eqb, and_parts, or_cases, or_left, or_right, and_from, not-true, not_from_false}
 use Rattle.fancy_meaning.specs.Tree as plain
 use Rattle.fancy_meaning.specs.Tree.{Tree}
-use Rattle.fancy_meaning.specs.Spots.{Around, Spot, all_spots}
+use Rattle.fancy_meaning.specs.Spots.{Around, Spot, spots, spots_in_turn, spots_of_each, all_spots}
+use Rattle.fancy_meaning.specs.Nodes.{nodes, nodes_of_each}
+use Rattle.fancy_meaning.specs.WellFormed.{is_call}
+use Rattle.fancy_expr.proofs.Listed.{any-map, any_passes, true_false}
 use Rattle.fancy_meaning.specs.Recursion.{IsTracked, Calls, IsOuter, IsReachable, LeadsAtOnce, IsLeftRecursive, IsLeastLeftRecursive}
 use Rattle.fancy_meaning.specs.Recursion as meaning
 use Rattle.fancy_analysis.specs.declared.links.Link.{Link}
 use Rattle.fancy_analysis.specs.Links.{link_from, link_of, around_of, links_of}
-use Rattle.fancy_analysis.proofs.SearchSteps.{contains_cases, contains_first, contains_later}
-use Rattle.fancy_analysis.specs.Reached.{IsLinked, IsLinkedAtOnce, IsReached, the_whole, further, LeadsOn, by_one, by_more, LeadsIntoCycle, IsLeastIntoCycle}
-
--- ---- members of what is picked
-
-module _ {X Y : Type 0} (f : X → Option Y) where
-  record IsPicked (xs : List X) (y : Y) : Type 0 where
-    pub from : X
-    pub is_there : Contains xs from
-    pub gives : f from ≡ Some y
-
-  picked_later : (x : X) (xs : List X) (y : Y) → IsPicked xs y → IsPicked (x ∷ xs) y
-  picked_later x xs y p = record { from = p.from; is_there = contains_later x p.from xs p.is_there; gives = p.gives }
-
-  picked_first : (x : X) (xs : List X) (o : Option Y) → f x ≡ o → (y : Y) → Contains (cons_option o (filter_map f xs)) y →
-      (Contains (filter_map f xs) y → IsPicked xs y) → IsPicked (x ∷ xs) y
-  picked_first x xs None e y c rest = picked_later x xs y (rest c)
-  picked_first x xs (Some z) e y c rest = elim (contains_cases z y (filter_map f xs) c) [
-    | inl s ↦ record { from = x; is_there = contains_first x xs; gives = e ∙ ap Some s }
-    | inr d ↦ picked_later x xs y (rest d)
-  ]
-
-  picked : (xs : List X) (y : Y) → Contains (filter_map f xs) y → IsPicked xs y
-  picked [] y c = let lt = c.1 in absurd (omega arith)
-  picked (x ∷ xs) y c = picked_first x xs (f x) refl y c (picked xs y)
-
-  kept : (o : Option Y) (l : List Y) (y : Y) → Contains l y → Contains (cons_option o l) y
-  kept None l y c = c
-  kept (Some z) l y c = contains_later z y l c
-
-  picks : (xs : List X) (x : X) (y : Y) → Contains xs x → f x ≡ Some y → Contains (filter_map f xs) y
-  picks [] x y c e = let lt = c.1 in absurd (omega arith)
-  picks (z ∷ xs) x y c e = elim (contains_cases z x xs c) [
-    | inl s ↦ subst (λ o. Contains (cons_option o (filter_map f xs)) y) (sym (ap f s ∙ e)) (contains_first y (filter_map f xs))
-    | inr d ↦ kept (f z) (filter_map f xs) y (picks xs x y d e)
-  ]
+use Rattle.fancy_analysis.proofs.SearchSteps.{IsPicked, picked, picks, given}
+use Rattle.fancy_analysis.specs.Reached.{IsLink, IsLinked, IsLinkedAtOnce, IsReached, the_whole, further, LeadsOn, by_one, by_more, LeadsIntoCycle, IsLeastIntoCycle}
 
 -- ---- what a link says
 
@@ -61,10 +31,6 @@ record IsOuterGroup (n : Tree) (a : Around) (l : Link) : Type 0 where
   pub is_entered : a.is_skipped ≡ false
   pub from : l.from ≡ 0
   pub at_once : l.at_once ≡ false
-
-given : {X : Type 0} (b : Bool) (x y : X) → (if b then Some x else None) ≡ Some y → (b ≡ true) × (x ≡ y)
-given true x y e = (refl, cc)
-given false x y e = cc
 
 tracked : (owner : ℕ) (skipped : Bool) → (not (owner == 0) || not skipped) ≡ true → (owner ≢ 0) ⊎ (skipped ≡ false)
 tracked owner skipped h = elim (or_cases (not (owner == 0)) (not skipped) h) [
@@ -156,13 +122,13 @@ module _ (whole : Tree) where
       let from = reachable g r in
       subst (IsReachable whole) l.leads_to (reach_by l.link l.is_there (subst (IsReachable whole) (sym l.leads_from) from))
 
-  call_linked : (g at h : ℕ) → Calls whole g at h → IsLinked links g h
-  call_linked g at h c = record {
+  call_linked : (at_once : Bool) (g at h : ℕ) → Calls whole g at h → (not at_once || at == 0) ≡ true → IsLink at_once links g h
+  call_linked at_once g at h c is = record {
     link = call_link c.spot h;
     is_there = from_spot c.spot (call_link c.spot h) c.is_there (call_gives c.spot h c.is_call c.is_tracked);
     leads_from = c.owner;
     leads_to = refl;
-    is_one = refl;
+    is_one = ap (λ p. not at_once || p == 0) c.position ∙ is;
   }
 
   outer_linked : (g : ℕ) → IsOuter whole g → IsLinked links 0 g
@@ -177,7 +143,7 @@ module _ (whole : Tree) where
   pub reached : (n : ℕ) → IsReachable whole n → IsReached links n
   reached n meaning.the_whole = the_whole
   reached n (meaning.outer o) = further the_whole (outer_linked n o)
-  reached n (meaning.by_call {g} {h} {at} r c) = further (reached g r) (call_linked g at n c)
+  reached n (meaning.by_call {g} {h} {at} r c) = further (reached g r) (call_linked false g at n c refl)
 
   call_at_once : (g h : ℕ) → IsLinkedAtOnce links g h → Calls whole g 0 h
   call_at_once g h l =
@@ -197,21 +163,12 @@ module _ (whole : Tree) where
         | inr o ↦ (let a = o.at_once in let b = l.is_one in cc)
       ]
 
-  linked_at_once : (g h : ℕ) → Calls whole g 0 h → IsLinkedAtOnce links g h
-  linked_at_once g h c = record {
-    link = call_link c.spot h;
-    is_there = from_spot c.spot (call_link c.spot h) c.is_there (call_gives c.spot h c.is_call c.is_tracked);
-    leads_from = c.owner;
-    leads_to = refl;
-    is_one = eq-eqb c.spot.position 0 c.position;
-  }
-
   at_once : (g h : ℕ) → LeadsOn links g h → LeadsAtOnce whole g h
   at_once g h (by_one l) = meaning.once (call_at_once g h l)
   at_once g k (by_more {h} p q) = meaning.again (at_once g h p) (at_once h k q)
 
   leads_on : (g h : ℕ) → LeadsAtOnce whole g h → LeadsOn links g h
-  leads_on g h (meaning.once c) = by_one (linked_at_once g h c)
+  leads_on g h (meaning.once c) = by_one (call_linked true g 0 h c refl)
   leads_on g k (meaning.again {h} p q) = by_more (leads_on g h p) (leads_on h k q)
 
   pub left_recursive : (n : ℕ) → IsReached links n → LeadsIntoCycle links n → IsLeftRecursive whole n
@@ -238,16 +195,55 @@ module _ (whole : Tree) where
     least = λ m lt l. i.least m lt (reached m l.is_reachable) (into_cycle m l);
   }
 
--- what was found of a list that is that of the links
-abbrev IsFoundOf : List Link → Option ℕ → Type 0
-IsFoundOf l r = MatchOption r ((n : ℕ) → IsReached l n → ¬ LeadsIntoCycle l n) (λ n. IsLeastIntoCycle l n)
+-- what is found of the links of a tree
+pub found_left : (whole : Tree) (list : List Link) (r : Option ℕ) → list ≡ links_of whole →
+    MatchOption r ((n : ℕ) → IsReached list n → ¬ LeadsIntoCycle list n) (λ n. IsLeastIntoCycle list n) →
+    MatchOption r ((n : ℕ) → ¬ IsLeftRecursive whole n) (λ n. IsLeastLeftRecursive whole n)
+found_left whole list None is found =
+    none_left_recursive whole (subst (λ l. (n : ℕ) → IsReached l n → ¬ LeadsIntoCycle l n) is found)
+found_left whole list (Some g) is found = least_left_recursive whole g (subst (λ l. IsLeastIntoCycle l g) is found)
 
-pub found_none : (whole : Tree) (l : List Link) (r : Option ℕ) → l ≡ links_of whole → r ≡ None → IsFoundOf l r → (n : ℕ) → ¬ IsLeftRecursive whole n
-found_none whole l r e is found =
-    let none : IsFoundOf (links_of whole) None = subst (IsFoundOf (links_of whole)) is (subst (λ m. IsFoundOf m r) e found) in
-    none_left_recursive whole none
+-- ---- where no node is a call
 
-pub found_least : (whole : Tree) (l : List Link) (r : Option ℕ) (g : ℕ) → l ≡ links_of whole → r ≡ Some g → IsFoundOf l r → IsLeastLeftRecursive whole g
-found_least whole l r g e is found =
-    let least : IsFoundOf (links_of whole) (Some g) = subst (IsFoundOf (links_of whole)) is (subst (λ m. IsFoundOf m r) e found) in
-    least_left_recursive whole g least
+module _ (whole : Tree) where
+  both_nodes : (p q : List Spot) (es fs : List Tree) → map (λ s. s.node) p ≡ es → map (λ s. s.node) q ≡ fs → map (λ s. s.node) (p ++ q) ≡ es ++ fs
+  both_nodes p q es fs a b = map-append (λ s. s.node) p q ∙ ap (λ l. l ++ map (λ s. s.node) q) a ∙ ap (λ l. es ++ l) b
+
+  mutual
+    spots-nodes : (a : Around) (e : Tree) → map (λ s. s.node) (spots whole a e) ≡ nodes e
+    spots-nodes a (plain.Concat es) = ap (λ l. plain.Concat es ∷ l) (turn-nodes a es)
+    spots-nodes a (plain.Alt es) = ap (λ l. plain.Alt es ∷ l) (each-nodes a es)
+    spots-nodes a (plain.Group g e) = ap (λ l. plain.Group g e ∷ l) (spots-nodes _ e)
+    spots-nodes a (plain.LookAround look e) = ap (λ l. plain.LookAround look e ∷ l) (spots-nodes a e)
+    spots-nodes a (plain.Repeat lo hi greedy e) = ap (λ l. plain.Repeat lo hi greedy e ∷ l) (spots-nodes _ e)
+    spots-nodes a (plain.AtomicGroup e) = ap (λ l. plain.AtomicGroup e ∷ l) (spots-nodes a e)
+    spots-nodes a (plain.DefineGroup e) = ap (λ l. plain.DefineGroup e ∷ l) (spots-nodes _ e)
+    spots-nodes a (plain.Conditional c t f) =
+        ap (λ l. plain.Conditional c t f ∷ l) (both_nodes _ _ _ _ (spots-nodes a c) (both_nodes _ _ _ _ (spots-nodes _ t) (spots-nodes a f)))
+    spots-nodes a (plain.AbsentRepeater e) = ap (λ l. plain.AbsentRepeater e ∷ l) (spots-nodes a e)
+    spots-nodes a (plain.AbsentStopper e) = ap (λ l. plain.AbsentStopper e ∷ l) (spots-nodes a e)
+    spots-nodes a (plain.AbsentExpression x e) = ap (λ l. plain.AbsentExpression x e ∷ l) (both_nodes _ _ _ _ (spots-nodes a x) (spots-nodes a e))
+    spots-nodes a e = refl
+
+    turn-nodes : (a : Around) (es : plain.Trees) → map (λ s. s.node) (spots_in_turn whole a es) ≡ nodes_of_each es
+    turn-nodes a plain.none = refl
+    turn-nodes a (plain.more e es) = both_nodes _ _ _ _ (spots-nodes a e) (turn-nodes _ es)
+
+    each-nodes : (a : Around) (es : plain.Trees) → map (λ s. s.node) (spots_of_each whole a es) ≡ nodes_of_each es
+    each-nodes a plain.none = refl
+    each-nodes a (plain.more e es) = both_nodes _ _ _ _ (spots-nodes a e) (each-nodes a es)
+
+  module _ (none : list_any is_call (nodes whole) ≡ false) where
+    no_call : (g at h : ℕ) → ¬ Calls whole g at h
+    unfolding all_spots
+    no_call g at h c =
+        true_false
+        (sym (any_passes (λ s. is_call s.node) (all_spots whole) c.spot c.is_there (ap is_call c.is_call))
+        ∙ any-map is_call (λ s. s.node) (all_spots whole) ∙ ap (list_any is_call) (spots-nodes _ whole) ∙ none)
+
+    leads_nowhere : (g h : ℕ) → ¬ LeadsAtOnce whole g h
+    leads_nowhere g h (meaning.once c) = no_call g 0 h c
+    leads_nowhere g k (meaning.again {h} p q) = leads_nowhere g h p
+
+    pub no_left_recursion : (g : ℕ) → ¬ IsLeftRecursive whole g
+    no_left_recursion g l = leads_nowhere l.on_cycle l.on_cycle l.cycle

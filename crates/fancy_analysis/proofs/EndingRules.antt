@@ -1,6 +1,6 @@
 -- Whether a node ends, by how its parts do; and the flags that no round changes tell what can end.
 use Rattle.std.proofs.Common.{◌≡◌, ℕ, ◌+◌, ◌<◌, ◌≤◌, Bool, true, false, List, [], ◌∷◌, ◌++◌, length, take, get_or, ap, ◌∙◌, arith, ◌&&◌, ◌||◌, ◌==◌, map, sym, refl, zero, suc, ◌⊎◌, inl, inr, ⊎_elim, max, nat_lt, replicate, filter_map, slice_index_or, slice_set, Option, Some, None, subst, lt-ltb}
-use Rattle.std.proofs.lemmas.List.{take_all, length-map, length-take-le, map-append, get_or_past}
+use Rattle.std.proofs.lemmas.List.{take_all, length-map, length-take-le, map-append, get_or_default, get_or_past}
 use Rattle.fancy_analysis.specs.Endings.{ends_by, all_end_by, some_end_by, before_parts, with_part, node_ends, is_ended_group, is_own_end, group_ends, IsRootOf, flag_count, next_ends}
 use Rattle.std.proofs.Math.Bool.{and_assoc, and-true, or_assoc, or_comm, or-false}
 use Rattle.fancy_meaning.specs.Tree.{Tree, Trees, trees, none, more, parts, Concat, Alt, Group, LookAround, Repeat, AtomicGroup, DefineGroup, Conditional, SubroutineCall, AbsentRepeater, AbsentStopper, AbsentExpression, NoLook}
@@ -13,11 +13,11 @@ use Rattle.fancy_meaning.specs.Sizes.{Known}
 use Rattle.fancy_analysis.specs.Made.{IsSized}
 use Rattle.fancy_info.proofs.Unfolded.{tree_out}
 use Rattle.fancy_expr.proofs.Walks.{taken}
-use Rattle.fancy_analysis.proofs.InfoNodes.{or_and, any_in_each, any-below, any-taken, sized_parts}
+use Rattle.fancy_analysis.proofs.InfoNodes.{absent_alike, or_and, any_in_each, any-below, any-taken, sized_parts}
 use Rattle.std.specs.List.{list_any}
-use Rattle.std.proofs.lemmas.Bool.{and_from, and_parts, cases_lt, eqb-true, cond-true, cond-false, or_cases, or_left, or_right}
+use Rattle.std.proofs.lemmas.Bool.{and_from, and_parts, cases_lt, eqb-true, ne_eqb, cond-true, cond-false, or_cases, or_left, or_right}
 use Rattle.std.proofs.lemmas.Bool.Decides.{eqb_tells}
-use Rattle.std.proofs.lemmas.Option.{none-some}
+use Rattle.std.proofs.lemmas.Option.{none-some, same_Some}
 use Rattle.fancy_meaning.specs.Nodes.{nodes, as_group, groups, body_in, target, group_count}
 use Rattle.fancy_meaning.specs.Places.{range_from}
 use Rattle.fancy_meaning.specs.Recursion.{CanEnd, AllEnd, SomeEnds, EndsWithParts, ends_with_parts, one_ends, not_required, body_ends, false_branch_ends, true_branch_ends, target_ends, no_target, none_left, and_more, this_one, a_later}
@@ -129,16 +129,10 @@ module _ (flags : List Bool) where
 
   -- ---- the groups of a node
 
-  absent_own : (g : ℕ) (a : Absent) (ts : Trees) → is_ended_group flags g (absent_over a ts) ≡ false
-  absent_own g (code_absent.Repeater' b e) ts = refl
-  absent_own g (code_absent.Expression' b a c e) ts = refl
-  absent_own g (code_absent.Stopper' b e) ts = refl
-  absent_own g code_absent.Clear ts = refl
-
   over_own : (g : ℕ) (e : Expr) (n : ℕ) (w : plain.Within) (ts : Trees) →
       is_ended_group flags g (node_over e n w ts) ≡ is_own_end e n (ends_by flags (node_over e n w ts)) g
   over_own g (code.Group' b e) n w ts = refl
-  over_own g (code.Absent a) n w ts = absent_own g a ts
+  over_own g (code.Absent a) n w ts = absent_alike (is_ended_group flags g) false (λ y. refl) (λ y z. refl) (λ y. refl) refl a ts
   over_own g e n w ts = refl
 
   pub own_end : (g : ℕ) (i : Info) →
@@ -174,57 +168,45 @@ module _ (flags : List Bool) where
       ∙ or_and old lt (any_in_each test (info_children i)) (test (info_tree i))
       ∙ ap (λ b. old || (lt && b)) (or_comm (any_in_each test (info_children i)) (test (info_tree i)) ∙ sym (any-below test i (sized_parts known i found)))
 
-some_same : {X : Type 0} (x y : X) → Some x ≡ Some y → x ≡ y
-some_same x y h = cc
-
 -- ---- groups by number
 
 abbrev numbers_of : List (ℕ × Tree) → List ℕ
 numbers_of hs = map (λ h. h.0) hs
 
+-- the body of a group passes, if there is one
+abbrev is_body : (Tree → Bool) → Option Tree → Bool
+is_body f None = false
+is_body f (Some e) = f e
+
+none_before : (hs : List (ℕ × Tree)) (m g : ℕ) → numbers_of hs ≡ range_from m (length hs) → g < m → body_in hs g ≡ None
+none_before [] m g row h = refl
+none_before (k ∷ hs) m g row h =
+    let head : k.0 ≡ m = cc in
+    cond-false (k.0 == g) (Some k.1) (body_in hs g) (ne_eqb k.0 g (λ is. omega (arith, head, is, h))) ∙ none_before hs (suc m) g (cc) (omega (arith, h))
+
 module _ (f : Tree → Bool) (g : ℕ) where
   abbrev passes : ℕ × Tree → Bool
   passes h = (h.0 == g) && f h.1
 
-  here_false : (h : ℕ × Tree) (hs : List (ℕ × Tree)) → (h.0 == g) ≡ false → list_any passes (h ∷ hs) ≡ list_any passes hs
-  here_false h hs other = ap (λ b. (b && f h.1) || list_any passes hs) other
-
-  number_of : (hs : List (ℕ × Tree)) (m : ℕ) → numbers_of hs ≡ range_from m (length hs) → list_any passes hs ≡ true → m ≤ g
-  number_of [] m row h = absurd (false_true h)
-  number_of (k ∷ hs) m row h =
-      let head : k.0 ≡ m = cc in
-      ⊎_elim
-      (λ same. let is : k.0 ≡ g = same.1 in omega (arith, head, is))
-      (λ other. let rest : suc m ≤ g = number_of hs (suc m) (cc) (sym (here_false k hs other.0) ∙ h) in omega (arith, rest))
-      (eqb_tells k.0 g)
-
-  pub body_of : (hs : List (ℕ × Tree)) (m : ℕ) → numbers_of hs ≡ range_from m (length hs) → list_any passes hs ≡ true →
-      (e : Tree) × (body_in hs g ≡ Some e) × (f e ≡ true)
-  body_of [] m row h = absurd (false_true h)
-  body_of (k ∷ hs) m row h =
+  any_body : (hs : List (ℕ × Tree)) (m : ℕ) → numbers_of hs ≡ range_from m (length hs) → list_any passes hs ≡ is_body f (body_in hs g)
+  any_body [] m row = refl
+  any_body (k ∷ hs) m row =
       let head : k.0 ≡ m = cc in
       let tail : numbers_of hs ≡ range_from (suc m) (length hs) = cc in
-      ⊎_elim
-      (λ same. (
-        k.1,
-        cond-true (k.0 == g) (Some k.1) (body_in hs g) same.0,
-        ⊎_elim
-            (λ here. (and_parts (k.0 == g) (f k.1) here).1)
-            (λ later. let rest : suc m ≤ g = number_of hs (suc m) tail later in let is : k.0 ≡ g = same.1 in absurd (omega (arith, head, is, rest)))
-            (or_cases (passes k) (list_any passes hs) h),
-      ))
-      (λ other. let rest = body_of hs (suc m) tail (sym (here_false k hs other.0) ∙ h) in
-      (rest.0, cond-false (k.0 == g) (Some k.1) (body_in hs g) other.0 ∙ rest.1, rest.2))
+      ap (λ b. passes k || b) (any_body hs (suc m) tail)
+      ∙ ⊎_elim
+      (λ same. let is : k.0 ≡ g = same.1 in
+      ap (λ o. ((k.0 == g) && f k.1) || is_body f o) (none_before hs (suc m) g tail (omega (arith, head, is)))
+      ∙ or-false (passes k)
+      ∙ ap (λ b. b && f k.1) same.0
+      ∙ ap (is_body f) (sym (cond-true (k.0 == g) (Some k.1) (body_in hs g) same.0)))
+      (λ other. ap (λ b. (b && f k.1) || is_body f (body_in hs g)) other.0
+      ∙ ap (is_body f) (sym (cond-false (k.0 == g) (Some k.1) (body_in hs g) other.0)))
       (eqb_tells k.0 g)
 
-  pub any_of_body : (hs : List (ℕ × Tree)) (e : Tree) → body_in hs g ≡ Some e → f e ≡ true → list_any passes hs ≡ true
-  any_of_body [] e is h = absurd (none-some e is)
-  any_of_body (k ∷ hs) e is h =
-      ⊎_elim
-      (λ same. or_left (passes k) (list_any passes hs)
-      (and_from (k.0 == g) (f k.1) same.0 (ap f (some_same k.1 e (sym (cond-true (k.0 == g) (Some k.1) (body_in hs g) same.0) ∙ is)) ∙ h)))
-      (λ other. here_false k hs other.0 ∙ any_of_body hs e (sym (cond-false (k.0 == g) (Some k.1) (body_in hs g) other.0) ∙ is) h)
-      (eqb_tells k.0 g)
+  is_some_body : (o : Option Tree) → is_body f o ≡ true → (e : Tree) × (o ≡ Some e) × (f e ≡ true)
+  is_some_body None h = absurd (false_true h)
+  is_some_body (Some e) h = (e, refl, h)
 
 pub none_past : (hs : List (ℕ × Tree)) (m g : ℕ) → numbers_of hs ≡ range_from m (length hs) → m + length hs ≤ g → body_in hs g ≡ None
 none_past [] m g row h = refl
@@ -255,14 +237,10 @@ any-groups flags g (e ∷ es) = any-groups flags g es
 -- ---- flags
 
 within_or_past : (flags : List Bool) (g : ℕ) → slice_index_or flags g true ≡ true → (slice_index_or flags g false ≡ true) ⊎ (length flags ≤ g)
-within_or_past [] g h = inr (omega arith)
-within_or_past (b ∷ flags) zero h = inl h
-within_or_past (b ∷ flags) (suc g) h = ⊎_elim (λ p. inl p) (λ q. inr (omega (arith, q))) (within_or_past flags g h)
+within_or_past flags g h = ⊎_elim (λ lt. inl (get_or_default flags g false true lt ∙ h)) (λ ge. inr ge) (cases_lt g (length flags))
 
 true_within : (flags : List Bool) (g : ℕ) → slice_index_or flags g false ≡ true → slice_index_or flags g true ≡ true
-true_within [] g h = refl
-true_within (b ∷ flags) zero h = h
-true_within (b ∷ flags) (suc g) h = true_within flags g h
+true_within flags g h = ⊎_elim (λ lt. get_or_default flags g true false lt ∙ h) (λ ge. get_or_past flags g true ge) (cases_lt g (length flags))
 
 -- how many flags are set
 abbrev pub set_count : List Bool → ℕ
@@ -292,7 +270,7 @@ same_flags (false ∷ xs) (true ∷ ys) h grows same =
     let rest = count_grows xs ys (omega (arith, h)) (λ g. grows (suc g)) in absurd (omega (arith, rest, same))
 same_flags (false ∷ xs) (false ∷ ys) h grows same = ap (λ l. false ∷ l) (same_flags xs ys (omega (arith, h)) (λ g. grows (suc g)) same)
 
-pub count_most : (xs : List Bool) → set_count xs ≤ length xs
+count_most : (xs : List Bool) → set_count xs ≤ length xs
 count_most [] = omega arith
 count_most (true ∷ xs) = let rest = count_most xs in omega (arith, rest)
 count_most (false ∷ xs) = let rest = count_most xs in omega (arith, rest)
@@ -393,7 +371,8 @@ module _ (whole : Tree) (n : ℕ) (flags : List Bool) (has : HasFlags whole n fl
     unfolding target groups
     target_sound zero h = record { body = whole; is_target = refl; ends = ends_sound whole h }
     target_sound (suc g) h =
-        let found = body_of (ends_by flags) (suc g) (groups whole) n has.numbers (sym (any-groups flags (suc g) (nodes whole)) ∙ h) in
+        let found = is_some_body (ends_by flags) (suc g) (body_in (groups whole) (suc g))
+        (sym (any-groups flags (suc g) (nodes whole) ∙ any_body (ends_by flags) (suc g) (groups whole) n has.numbers) ∙ h) in
         record { body = found.0; is_target = found.1; ends = ends_sound found.0 found.2 }
 
   -- ---- what can end does so by flags that no round changes
@@ -401,8 +380,9 @@ module _ (whole : Tree) (n : ℕ) (flags : List Bool) (has : HasFlags whole n fl
   module _ (closed : (g : ℕ) → g < length flags → flag.target_ends flags whole g ≡ true → slice_index_or flags g false ≡ true) where
     target_complete : (g : ℕ) (e : Tree) → target whole g ≡ Some e → ends_by flags e ≡ true → flag.target_ends flags whole g ≡ true
     unfolding target groups
-    target_complete zero e is h = ap (ends_by flags) (some_same whole e is) ∙ h
-    target_complete (suc g) e is h = any-groups flags (suc g) (nodes whole) ∙ any_of_body (ends_by flags) (suc g) (groups whole) e is h
+    target_complete zero e is h = ap (ends_by flags) (same_Some whole e is) ∙ h
+    target_complete (suc g) e is h =
+        any-groups flags (suc g) (nodes whole) ∙ any_body (ends_by flags) (suc g) (groups whole) n has.numbers ∙ ap (is_body (ends_by flags)) is ∙ h
 
     call_complete : (g : ℕ) (e : Tree) → target whole g ≡ Some e → ends_by flags e ≡ true → slice_index_or flags g true ≡ true
     call_complete g e is h =
@@ -492,7 +472,7 @@ has_flags whole root w flags h = record {
 
 pub sound_first : (whole : Tree) (flags : List Bool) → IsSoundFor whole flags → slice_index_or flags 0 false ≡ true → CanEnd whole whole
 unfolding target
-sound_first whole flags sound set = let there = sound 0 set in subst (CanEnd whole) (sym (some_same whole there.body there.is_target)) there.ends
+sound_first whole flags sound set = let there = sound 0 set in subst (CanEnd whole) (sym (same_Some whole there.body there.is_target)) there.ends
 
 -- a round over the flags that are held
 pub next_of_root : (whole : Tree) (root : Info) (w : IsRootOf whole root) (flags held next : List Bool) → NextFlags (info_tree root) held next →

@@ -3,12 +3,14 @@ use Rattle.std.proofs.Common.{◌≡◌, ℕ, zero, suc, ◌+◌, ◌<◌, Bool,
 use Rattle.std.proofs.Math.Bool.{or-false, or-true, or_assoc}
 use Rattle.std.specs.List.{list_any, cons_option}
 use Rattle.std.proofs.lemmas.List.{length-map, take_all}
-use Rattle.std.proofs.lemmas.List.Folds.{list_any-append}
-use Rattle.fancy_meaning.specs.Tree.{Tree, trees, parts, Assert, Within}
+use Rattle.std.proofs.lemmas.List.Folds.{list_any-append, list_any_at, list_any_more}
+use Rattle.fancy_meaning.specs.Tree.{Tree, Trees, trees, parts, Assert, AbsentRepeater, AbsentExpression, AbsentStopper, AbsentClear, Within}
 use Rattle.fancy_meaning.specs.Nodes.{nodes, nodes_of_each, read_by, read_groups, is_read}
 use Rattle.fancy_info.specs.declared.info.Info.{Info}
 use Rattle.fancy_expr.specs.Exprs.{below, exprs, exprs_of_each}
-use Rattle.fancy_info.specs.Infos.{info_tree, info_children, info_facts}
+use Rattle.fancy_info.specs.Infos.{absent_over, info_tree, info_children, info_facts}
+use Rattle.fancy_expr.specs.declared.expr.Absent.{Absent}
+use Rattle.fancy_expr.specs.declared.expr.Absent.TheVariants as code_absent
 use Rattle.fancy_meaning.specs.Sizes.{Known}
 use Rattle.fancy_analysis.specs.Made.{IsSized, IsSizedNode}
 use Rattle.fancy_info.proofs.Children.{each_at}
@@ -40,6 +42,14 @@ parts-out i h =
     let f = info_facts i in
     ap parts (tree_out i) ∙ over-parts f.expr f.start_group f.within (map info_tree (info_children i)) (length-map (info_children i) info_tree ∙ h)
 
+-- what is the same of all absent nodes
+pub absent_alike : {X : Type 0} (f : Tree → X) (x : X) → ((y : Tree) → f (AbsentRepeater y) ≡ x) → ((y z : Tree) → f (AbsentExpression y z) ≡ x) →
+    ((y : Tree) → f (AbsentStopper y) ≡ x) → f AbsentClear ≡ x → (a : Absent) (es : Trees) → f (absent_over a es) ≡ x
+absent_alike f x repeater expression stopper clear (code_absent.Repeater' b y) es = repeater _
+absent_alike f x repeater expression stopper clear (code_absent.Expression' b y c z) es = expression _ _
+absent_alike f x repeater expression stopper clear (code_absent.Stopper' b y) es = stopper _
+absent_alike f x repeater expression stopper clear code_absent.Clear es = clear
+
 module _ (test : Tree → Bool) where
   abbrev any_in : Info → Bool
   any_in i = list_any test (nodes (info_tree i))
@@ -62,15 +72,10 @@ module _ (test : Tree → Bool) where
 
   pub any-taken : (is : List Info) (n : ℕ) (i : Info) → n < length is → i ≡ get_or is n i →
       any_in_each (take (n + 1) is) ≡ (any_in_each (take n is) || list_any test (nodes (info_tree i)))
-  any-taken is n i h at =
-      ap any_in_each (taken is n i h at)
-      ∙ list_any-append any_in (take n is) (i ∷ [])
-      ∙ ap (λ b. any_in_each (take n is) || b) (or-false (any_in i))
+  any-taken is n i h at = list_any_more any_in is n i h ∙ ap (λ x. any_in_each (take n is) || any_in x) (sym at)
 
   pub any-at : (is : List Info) (n : ℕ) (i : Info) → n < length is → i ≡ get_or is n i → list_any test (nodes (info_tree i)) ≡ true → any_in_each is ≡ true
-  any-at [] n i h at passes = absurd (omega arith)
-  any-at (j ∷ is) zero i h at passes = ap (λ b. b || any_in_each is) (ap any_in (sym at) ∙ passes)
-  any-at (j ∷ is) (suc n) i h at passes = ap (λ b. any_in j || b) (any-at is n i (omega (arith, h)) at passes) ∙ or-true (any_in j)
+  any-at is n i h at passes = list_any_at any_in is n i h (ap any_in (sym at) ∙ passes)
 
 abbrev pub read_here : Expr → ℕ → Bool
 read_here e g = is_named (read_by (tree_of e)) g

@@ -30,6 +30,8 @@ use Rattle.fancy_expr.proofs.Exprs.{exprs-below, parts-below}
 use Rattle.fancy_expr.proofs.Starts.{start-own}
 use Rattle.fancy_expr.proofs.Numbered.{count-numbered}
 use Rattle.fancy_analysis.specs.Endings.{IsRootOf, IsWhole}
+use Rattle.fancy_analysis.proofs.InfoNodes.{absent_alike}
+use Rattle.fancy_analysis.proofs.RefusalNodes.{low}
 use Rattle.fancy_meaning.specs.Tree as plain
 use Rattle.fancy_expr.specs.declared.expr.Absent.TheVariants as code_absent
 use Rattle.fancy_expr.specs.declared.expr.Expr.TheVariants as code
@@ -93,12 +95,6 @@ module _ (a : Analysis) where
   assertion-hard w code_assertion.StartText = refl
   assertion-hard w x = refl
 
-  absent-hard : (x : Absent) (es : Trees) → true ≡ is_hard a (absent_over x es)
-  absent-hard (code_absent.Repeater' b e) es = refl
-  absent-hard (code_absent.Expression' b y c e) es = refl
-  absent-hard (code_absent.Stopper' b e) es = refl
-  absent-hard code_absent.Clear es = refl
-
   list-hard : (es : Trees) (t : Tree) (s : Size) (hards : List Bool) → s ≡ size a.tree t → hards ≡ map (is_hard a) (plain.children es) →
       (some_true hards || is_hard_by_size a.options s) ≡ (any_hard a es || is_hard_by_size a.options (size a.tree t))
   list-hard es t s hards sized below =
@@ -128,19 +124,13 @@ module _ (a : Analysis) where
   node-hard (code.Group' b e) n w es s read hards sized flagged below = group-hard es n s read hards sized flagged below
   node-hard (code.Repeat' b e lo hi greedy) n w es s read hards sized flagged below =
       child-hard es (plain.Repeat lo (bound_of hi) greedy (nth es 0)) s hards sized below
-  node-hard (code.Absent x) n w es s read hards sized flagged below = absent-hard x es
+  node-hard (code.Absent x) n w es s read hards sized flagged below = sym (absent_alike (is_hard a) true (λ y. refl) (λ y z. refl) (λ y. refl) refl x es)
   node-hard e n w es s read hards sized flagged below = refl
-
-  absent-read : (x : Absent) (es : Trees) → false ≡ is_read_group a.tree (absent_over x es)
-  absent-read (code_absent.Repeater' b e) es = refl
-  absent-read (code_absent.Expression' b y c e) es = refl
-  absent-read (code_absent.Stopper' b e) es = refl
-  absent-read code_absent.Clear es = refl
 
   node-read : (reads : List Bool) → ((g : ℕ) → slice_index_or reads g false ≡ is_read a.tree g) → (e : Expr) (n : ℕ) (w : plain.Within) (es : Trees) →
       read_flag reads e n ≡ is_read_group a.tree (node_over e n w es)
   node-read reads h (code.Group' b e) n w es = h n
-  node-read reads h (code.Absent x) n w es = absent-read x es
+  node-read reads h (code.Absent x) n w es = sym (absent_alike (is_read_group a.tree) false (λ y. refl) (λ y z. refl) (λ y. refl) refl x es)
   node-read reads h e n w es = refl
 
 -- ---- the node
@@ -366,10 +356,6 @@ visited_node t e i start w next infos info h before made =
           before.in_turn
           (ends ∙ ap (λ k. start + k) (sym (ap group_count tree ∙ count-numbered w start (tree_of e))));
     }
-
-low : (b : Bool) → (if b then 0 else 1) ≤ 1
-low true = omega arith
-low false = omega arith
 
 pub root_visited : (tables : VisitTables) (e : Expr) (first : ℕ) (info : Info) → first ≤ 1 → IsVisited tables e first NoLook info →
     Agree (tables_known tables) (known_of (numbered first (tree_of e))) (exprs e) → IsRootOf (numbered first (tree_of e)) info

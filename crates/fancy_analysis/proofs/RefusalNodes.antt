@@ -2,9 +2,9 @@
 use Rattle.std.proofs.Common.{◌≡◌, ℕ, suc, ◌+◌, ◌-◌, ◌<◌, ◌≤◌, Bool, true, false, not, ◌&&◌, ◌||◌, ◌==◌, nat_lt, if◌then◌else◌, List, [], ◌∷◌, length, map, Contains, IsTrue, refl, sym, ap, ap₂, ◌∙◌, subst, arith, ⊎_elim}
 use Rattle.std.specs.List.{list_any}
 use Rattle.std.proofs.Math.Bool.{and-false}
-use Rattle.std.proofs.lemmas.Bool.{and_parts, cases_lt, eqb-true, eq-eqb, lt-ltb, or_right}
-use Rattle.std.proofs.lemmas.List.{length-map}
+use Rattle.std.proofs.lemmas.Bool.{and_from, and_parts, cases_lt, eqb-true, eq-eqb, lt-ltb, ne_eqb, not_from_false, or_right}
 use Rattle.fancy_analysis.specs.LateReads.{is_named}
+use Rattle.fancy_analysis.proofs.CallLinks.{no_left_recursion}
 use Rattle.fancy_analysis.proofs.InfoNodes.{read-nodes, read-numbered}
 use Rattle.std.proofs.lemmas.List.Elements.{Contains-append_right}
 use Rattle.fancy_meaning.specs.Tree.{Tree, Assert, Repeat, Backref, BackrefWithLevel, BackrefExists, AstNode, UnresolvedCall, UnresolvedOther, Within, NoLook, Unresolved}
@@ -90,8 +90,9 @@ is_unresolved UnresolvedOther e h = absurd (false_true h)
 
 -- ---- each refused node is refused for a case
 
-below_or : (g n : ℕ) → (n ≤ g → ⊥) → g < n
-below_or g n h = ⊎_elim (λ lt. lt) (λ le. absurd (h le)) (cases_lt g n)
+pub low : (b : Bool) → (if b then 0 else 1) ≤ 1
+low true = omega arith
+low false = omega arith
 
 module _ (p : ParsedTree) (options : AnalysisOptions) where
   abbrev first : ℕ
@@ -209,7 +210,7 @@ module _ (p : ParsedTree) (options : AnalysisOptions) where
     unfolding numbered
     refused_at_end has_call cannot = never_ends (any-numbered is_call blind-call NoLook first p.tree ∙ has_call) cannot not_before_end
 
-  pub no_call_in : list_any is_call (nodes p.tree) ≡ false → list_any is_call (nodes whole) ≡ false
+  no_call_in : list_any is_call (nodes p.tree) ≡ false → list_any is_call (nodes whole) ≡ false
   no_call_in none = any-numbered is_call blind-call NoLook first p.tree ∙ none
 
   -- ---- a group that is read is in range
@@ -219,20 +220,12 @@ module _ (p : ParsedTree) (options : AnalysisOptions) where
   names_it g (BackrefExists k level) h = eq-eqb k g (sym (eqb-true g k h))
   names_it g x h = absurd (false_true h)
 
-  past_last : (g : ℕ) (b : Bool) → options.explicit_capture_group_0 ≡ b → p.total_groups < g → last < g
-  past_last g true is h =
-      let at : first ≡ 0 = ap (λ t. if t then 0 else 1) is in
-      omega (arith, at)
-  past_last g false is h =
-      let at : first ≡ 1 = ap (λ t. if t then 0 else 1) is in
-      omega (arith, at)
-
   pub read_in_range : p.total_groups ≡ group_count p.tree → HasNoRefusedNode p options → (g : ℕ) → is_read p.tree g ≡ true → p.total_groups < g → ⊥
   unfolding numbered
   read_in_range counted taken g read past =
       let some = some_there (λ x. is_named (read_by x) g) (nodes p.tree) (sym (read-nodes p.tree g) ∙ read) in
       let out : (nat_lt g first || nat_lt last g) ≡ true =
-      or_right (nat_lt g first) (nat_lt last g) (lt-ltb last g (past_last g options.explicit_capture_group_0 refl past)) in
+      or_right (nat_lt g first) (nat_lt last g) (lt-ltb last g (omega (arith, past, low options.explicit_capture_group_0))) in
       true_false (sym (named_refused g out some.0 (names_it g some.0 some.2)) ∙ any_fails_at (is_refused first last) (nodes p.tree) some.0 taken.nodes some.1)
 
   flag : (n g : ℕ) (b : Bool) → (b ≡ true → g < n) → (nat_lt g n && b) ≡ b
@@ -242,17 +235,15 @@ module _ (p : ParsedTree) (options : AnalysisOptions) where
   pub flag_is_read : p.total_groups ≡ group_count p.tree → HasNoRefusedNode p options → (g : ℕ) →
       (nat_lt g (p.total_groups + 1) && is_read p.tree g) ≡ is_read whole g
   flag_is_read counted taken g =
-      flag (p.total_groups + 1) g (is_read p.tree g) (λ read. below_or g (p.total_groups + 1) (λ le. read_in_range counted taken g read (omega arith)))
+      flag (p.total_groups + 1) g (is_read p.tree g) (λ read.
+      ⊎_elim (λ lt. lt) (λ le. absurd (read_in_range counted taken g read (omega (arith, le)))) (cases_lt g (p.total_groups + 1)))
       ∙ sym (read-numbered NoLook first p.tree g)
 
 -- ---- names
 
-map_nothing : {X Y : Type 0} (f : X → Y) (xs : List X) → map f xs ≡ [] → length xs ≡ 0
-map_nothing f xs h = sym (length-map xs f) ∙ ap length h
-
 pub names_there : {X Y : Type 0} (f : X → Y) (xs : List X) (b : Bool) → (b && not (length xs == 0)) ≡ true → map f xs ≡ [] → ⊥
-names_there f xs b h none =
-    false_true (ap not (sym (eq-eqb (length xs) 0 (map_nothing f xs none))) ∙ (and_parts b (not (length xs == 0)) h).1)
+names_there f [] b h none = false_true (and_parts b false h).1
+names_there f (x ∷ xs) b h none = cc
 
 pub named_flags : {X : Type 0} (xs : List X) (b : Bool) → (b && not (length xs == 0)) ≡ true → b ≡ true
 named_flags xs b h = (and_parts b (not (length xs == 0)) h).0
@@ -260,12 +251,7 @@ named_flags xs b h = (and_parts b (not (length xs == 0)) h).0
 pub names_absent : {X Y : Type 0} (f : X → Y) (xs : List X) (b : Bool) → (b && not (length xs == 0)) ≡ false → b ≡ true → ¬ (map f xs ≡ []) → ⊥
 names_absent f [] b h given some = some refl
 names_absent f (x ∷ xs) b h given some =
-    let tested : not (suc (length xs) == 0) ≡ false = ap (λ t. t && not (suc (length xs) == 0)) (sym given) ∙ h in
-    no_zero (suc (length xs) == 0) refl tested
-  where
-    no_zero : (t : Bool) → (suc (length xs) == 0) ≡ t → not (suc (length xs) == 0) ≡ false → ⊥
-    no_zero true is tested = absurd (omega (arith, eqb-true (suc (length xs)) 0 is))
-    no_zero false is tested = true_false (ap not (sym is) ∙ tested)
+    true_false (sym (and_from b _ given (not_from_false (suc (length xs) == 0) (ne_eqb (suc (length xs)) 0 (λ e. omega (arith, e))))) ∙ h)
 
 module _ (p : ParsedTree) (options : AnalysisOptions) where
   abbrev whole_tree : Tree
@@ -277,18 +263,18 @@ module _ (p : ParsedTree) (options : AnalysisOptions) where
   pub left_refused : (text : List ℕ) → IsDescriptionOfLeast whole_tree p.named_groups text → AnalysisRefuses p options (LeftRecursiveSubroutineCall text)
   left_refused text d = before_end (left_recursion d.group text d.is_least d.describes)
 
-  module _ (counted : p.total_groups ≡ group_count p.tree) (quiet : HasNoRefusedNode p options) where
-    pub without_calls : ((g : ℕ) → ¬ ReadsAfterCall whole_tree g) → ((g : ℕ) → ¬ IsLeftRecursive whole_tree g) → list_any is_call (nodes p.tree) ≡ false →
-        IsAnalysable p options
+  module _ (counted : p.total_groups ≡ group_count p.tree) (quiet : HasNoRefusedNode p options) (no_late : (g : ℕ) → ¬ ReadsAfterCall whole_tree g) where
+    pub without_calls : list_any is_call (nodes p.tree) ≡ false → IsAnalysable p options
     unfolding numbered
-    without_calls no_late no_left none =
-        accepted p options counted quiet no_late no_left (λ some cannot. true_false (sym some ∙ no_call_in p options none))
+    without_calls none =
+        let no_call = no_call_in p options none in
+        accepted p options counted quiet no_late (no_left_recursion whole_tree no_call) (λ some cannot. true_false (sym some ∙ no_call))
 
-    pub that_end : ((g : ℕ) → ¬ ReadsAfterCall whole_tree g) → ((g : ℕ) → ¬ IsLeftRecursive whole_tree g) → CanEnd whole_tree whole_tree → IsAnalysable p options
-    unfolding numbered
-    that_end no_late no_left ends = accepted p options counted quiet no_late no_left (λ some cannot. cannot ends)
+    module _ (no_left : (g : ℕ) → ¬ IsLeftRecursive whole_tree g) where
+      pub that_end : CanEnd whole_tree whole_tree → IsAnalysable p options
+      unfolding numbered
+      that_end ends = accepted p options counted quiet no_late no_left (λ some cannot. cannot ends)
 
-    pub never_refused : ((g : ℕ) → ¬ ReadsAfterCall whole_tree g) → ((g : ℕ) → ¬ IsLeftRecursive whole_tree g) → list_any is_call (nodes p.tree) ≡ true →
-        ¬ CanEnd whole_tree whole_tree → AnalysisRefuses p options NeverEndingRecursion
-    unfolding numbered
-    never_refused no_late no_left some cannot = refused_at_end p options counted quiet no_late no_left some cannot
+      pub never_refused : list_any is_call (nodes p.tree) ≡ true → ¬ CanEnd whole_tree whole_tree → AnalysisRefuses p options NeverEndingRecursion
+      unfolding numbered
+      never_refused = refused_at_end p options counted quiet no_late no_left

@@ -6,9 +6,8 @@ use Rattle.fancy_meaning.specs.Tree.{Tree, Trees, trees, parts, Within}
 use Rattle.fancy_meaning.specs.Nodes.{nodes, nodes_of_each, as_group, groups, group_count, body_in, target}
 use Rattle.fancy_meaning.specs.Sizes.{Size, Known, size_by, size_in_round, next_round, after_rounds, known_of, unknown}
 use Rattle.fancy_info.specs.declared.info.Info.{Info}
-use Rattle.fancy_expr.specs.declared.expr.Absent.{Absent}
 use Rattle.fancy_expr.specs.declared.expr.Expr.{Expr}
-use Rattle.fancy_info.specs.Infos.{absent_over, node_over, info_tree, info_size, info_children, info_facts, tree_over}
+use Rattle.fancy_info.specs.Infos.{node_over, info_tree, info_size, info_children, info_facts, tree_over}
 use Rattle.fancy_analysis.specs.Made.{IsSizedNode, IsSized, own_size, from_0, from_1, past_first}
 use Rattle.fancy_info.proofs.OverParts.{over-parts}
 use Rattle.fancy_info.proofs.Unfolded.{tree_out, each_here}
@@ -22,9 +21,9 @@ use Rattle.fancy_analysis.specs.Rounds.{same_size, same_sizes}
 use Rattle.fancy_meaning.specs.Numbering.{numbered_within}
 use Rattle.fancy_meaning.specs.Places.{range_from}
 use Rattle.fancy_analysis.proofs.EndingRules.{none_past as no_body}
+use Rattle.fancy_analysis.proofs.InfoNodes.{absent_alike}
 use Rattle.fancy_info.proofs.GroupNumbers.{numbers}
 use Rattle.fancy_meaning.specs.Tree as plain
-use Rattle.fancy_expr.specs.declared.expr.Absent.TheVariants as code_absent
 use Rattle.fancy_expr.specs.declared.expr.Expr.TheVariants as code
 
 module _ (known : Known) where
@@ -54,17 +53,10 @@ module _ (known : Known) where
   each-among [] = refl
   each-among (i ∷ is) = among-append (nodes (info_tree i)) (nodes_of_each (trees (map info_tree is))) ∙ ap (λ l. sizes_in (info_tree i) ++ l) (each-among is)
 
-  absent-alone : (a : Absent) (es : Trees) → sizes_among (absent_over a es ∷ []) ≡ []
-  unfolding sizes_among
-  absent-alone (code_absent.Repeater' b e) es = refl
-  absent-alone (code_absent.Expression' b a c e) es = refl
-  absent-alone (code_absent.Stopper' b e) es = refl
-  absent-alone code_absent.Clear es = refl
-
   over-alone : (e : Expr) (n : ℕ) (w : plain.Within) (es : Trees) → sizes_among (node_over e n w es ∷ []) ≡ own_size e (size_by known (node_over e n w es))
   unfolding sizes_among
   over-alone (code.Group' b e) n w es = refl
-  over-alone (code.Absent a) n w es = absent-alone a es
+  over-alone (code.Absent a) n w es = absent_alike (λ t. sizes_among (t ∷ [])) [] (λ y. refl) (λ y z. refl) (λ y. refl) refl a es
   over-alone e n w es = refl
 
   -- the groups of a node: itself, and those of its children
@@ -151,10 +143,6 @@ module _ (known : Known) where
       ∙ ap (λ l. size_by known h.1 ∷ l) (range_same (in_round (h ∷ gs)) (in_round gs) (length gs) (suc k) (λ i le. later_group h.0 h.1 gs i (omega arith)))
       ∙ ap (λ l. size_by known h.1 ∷ l) (by_number (suc k) gs rest)
 
-  -- past the last one there is none
-  none_past : (k : ℕ) (gs : List (ℕ × Tree)) (g : ℕ) → map (λ h. h.0) gs ≡ range_from k (length gs) → k + length gs ≤ g → in_round gs g ≡ unknown
-  none_past k gs g at le = ap (size_in_round known) (no_body gs k g at le)
-
   targets : (whole : Tree) (n : ℕ) → map (λ g. size_in_round known (target whole g)) (range_from 1 n) ≡ map (in_round (groups whole)) (range_from 1 n)
   unfolding target
   targets whole n = range_same _ _ n 1 (λ i le. target_at whole i le)
@@ -177,7 +165,7 @@ module _ (known : Known) where
       let rest : map (λ x. x.0) gs ≡ range_from 1 (length gs) = cc at in
       let up : length gs + 1 ≡ suc (length gs) = omega arith in
       ap (λ l. l ++ unknown ∷ []) (sym (by_number 1 gs rest))
-      ∙ ap (λ s. map (in_round gs) (range_from 1 (length gs)) ++ s ∷ []) (sym (none_past 1 gs (1 + length gs) rest (omega arith)))
+      ∙ ap (λ s. map (in_round gs) (range_from 1 (length gs)) ++ s ∷ []) (sym (ap (size_in_round known) (no_body gs 1 (1 + length gs) rest (omega arith))))
       ∙ sym (range_more (in_round gs) 1 (length gs))
       ∙ ap (λ n. map (in_round gs) (range_from 1 n)) up
       ∙ range_same (in_round gs) (in_round (h ∷ gs)) (suc (length gs)) 1 (λ i le. sym (later_group h.0 h.1 gs i (omega arith)))

@@ -1,11 +1,12 @@
 -- Searches along links: what is reached, and what leads into a cycle.
-use Rattle.std.proofs.Common.{◌≡◌, ◌⊎◌, zero, suc, List, ◌∷◌, Contains, refl, arith, inl, inr, ◌≢◌, ℕ, ◌+◌, ◌<◌, Bool, true, false, cond, [], length, get_or, ap, ◌∙◌, get_or-set_same, get_or-set_other, ◌++◌, map, All, Vec, Global, ⊎_elim, sym, subst, ◌≤◌, not, take, replicate}
+use Rattle.std.proofs.Common.{◌≡◌, ◌⊎◌, zero, suc, List, ◌∷◌, Contains, refl, arith, inl, inr, ◌≢◌, ℕ, ◌+◌, ◌<◌, Bool, true, false, cond, [], length, get_or, ap, ◌∙◌, get_or-set_same, get_or-set_other, ◌++◌, map, All, Vec, Global, ⊎_elim, sym, subst, ◌≤◌, not, ◌||◌, ◌&&◌, ◌==◌, if◌then◌else◌, Option, Some, None, filter_map, append-nil, take, replicate}
 use Rattle.std.proofs.Math.ListN.{set}
-use Rattle.std.proofs.lemmas.Bool.{cases_eq, both_ways, cases_lt}
+use Rattle.std.proofs.lemmas.Bool.{cases_eq, cases_lt, both_ways, and_from, and_parts, eqb-true, eq-eqb}
+use Rattle.std.proofs.lemmas.Bool.Decides.{eqb_tells}
 use Rattle.std.proofs.lemmas.List.Sums.{sum_by-set}
-use Rattle.std.specs.List.{count_by, sum_by}
-use Rattle.fancy_analysis.specs.Reached.{flag, ListsOneMore, listed, IsReached, the_whole, further, HasRoom, AreReached, AreWays, Reaches, IsLinkedAtOnce, LeadsOn, by_one, by_more, LeadsIntoCycle, IsLeastIntoCycle, BeginsWith, IsChain, IsState, is_done, left_of}
-use Rattle.std.proofs.lemmas.List.{map-set, length-append, length-map, length-set, get_or_past, length-replicate, get_or-replicate}
+use Rattle.std.specs.List.{cons_option, count_by, sum_by}
+use Rattle.fancy_analysis.specs.Reached.{flag, listed, way_from, IsLink, IsLinked, IsReached, the_whole, further, HasRoom, AreReached, AreWays, IsLinkedAtOnce, LeadsOn, by_one, by_more, LeadsIntoCycle, IsLeastIntoCycle, BeginsWith, IsChain, IsState, is_done}
+use Rattle.std.proofs.lemmas.List.{get_or-map, map-set, length-append, length-map, length-set, get_or_past, length-replicate, get_or-replicate}
 use Rattle.std.proofs.lemmas.List.Elements.{Contains-append_left, Contains-push, Contains-push_cases, All-head, All-tail, All-more, All-contains, Contains-append_right, Contains-append_cases}
 use Rattle.std.proofs.Math.Seq.{take-append_seam}
 use Rattle.fancy_analysis.specs.declared.links.Link.{Link}
@@ -21,6 +22,44 @@ contains_first x xs = (0, omega arith, refl)
 pub contains_later : {X : Type 0} (x y : X) (xs : List X) → Contains xs y → Contains (x ∷ xs) y
 contains_later x y xs c = (suc c.0, (let lt = c.1 in omega arith), c.2)
 
+-- ---- members of what is picked
+
+module _ {X Y : Type 0} (f : X → Option Y) where
+  pub record IsPicked (xs : List X) (y : Y) : Type 0 where
+    pub from : X
+    pub is_there : Contains xs from
+    pub gives : f from ≡ Some y
+
+  picked_later : (x : X) (xs : List X) (y : Y) → IsPicked xs y → IsPicked (x ∷ xs) y
+  picked_later x xs y p = record { from = p.from; is_there = contains_later x p.from xs p.is_there; gives = p.gives }
+
+  picked_first : (x : X) (xs : List X) (o : Option Y) → f x ≡ o → (y : Y) → Contains (cons_option o (filter_map f xs)) y →
+      (Contains (filter_map f xs) y → IsPicked xs y) → IsPicked (x ∷ xs) y
+  picked_first x xs None e y c rest = picked_later x xs y (rest c)
+  picked_first x xs (Some z) e y c rest = elim (contains_cases z y (filter_map f xs) c) [
+    | inl s ↦ record { from = x; is_there = contains_first x xs; gives = e ∙ ap Some s }
+    | inr d ↦ picked_later x xs y (rest d)
+  ]
+
+  pub picked : (xs : List X) (y : Y) → Contains (filter_map f xs) y → IsPicked xs y
+  picked [] y c = let lt = c.1 in absurd (omega arith)
+  picked (x ∷ xs) y c = picked_first x xs (f x) refl y c (picked xs y)
+
+  kept : (o : Option Y) (l : List Y) (y : Y) → Contains l y → Contains (cons_option o l) y
+  kept None l y c = c
+  kept (Some z) l y c = contains_later z y l c
+
+  pub picks : (xs : List X) (x : X) (y : Y) → Contains xs x → f x ≡ Some y → Contains (filter_map f xs) y
+  picks [] x y c e = let lt = c.1 in absurd (omega arith)
+  picks (z ∷ xs) x y c e = elim (contains_cases z x xs c) [
+    | inl s ↦ subst (λ o. Contains (cons_option o (filter_map f xs)) y) (sym (ap f s ∙ e)) (contains_first y (filter_map f xs))
+    | inr d ↦ kept (f z) (filter_map f xs) y (picks xs x y d e)
+  ]
+
+pub given : {X : Type 0} (b : Bool) (x y : X) → (if b then Some x else None) ≡ Some y → (b ≡ true) × (x ≡ y)
+given true x y e = (refl, cc)
+given false x y e = cc
+
 -- one that passes is changed to one that does not
 pub one_less : {X : Type 0} (p : X → Bool) (xs : List X) (i : ℕ) (d y : X) → i < length xs → p (get_or xs i d) ≡ true → p y ≡ false →
     count_by p (set xs i y) + 1 ≡ count_by p xs
@@ -33,23 +72,19 @@ one_less {X} p xs i d y h at there =
 
 -- what is set has a flag
 pub flag_inside : (flags : List Bool) (n : ℕ) → flag flags n ≡ true → n < length flags
-flag_inside [] n h = cc
-flag_inside (x ∷ flags) zero h = omega arith
-flag_inside (x ∷ flags) (suc n) h = let more = flag_inside flags n h in omega arith
+flag_inside flags n h =
+    ⊎_elim (λ lt. lt) (λ ge. absurd (both_ways (flag flags n) (get_or_past flags n false ge) h)) (cases_lt n (length flags))
 
-pub flag_written : (flags : List Bool) (i n : ℕ) (b : Bool) → i < length flags →
-    ((n ≡ i) × (flag (set flags i b) n ≡ b)) ⊎ ((n ≢ i) × (flag (set flags i b) n ≡ flag flags n))
-flag_written flags i n b h = elim (cases_eq n i) [
-  | inl e ↦ inl (e, ap (flag (set flags i b)) e ∙ get_or-set_same flags i b false h)
-  | inr ne ↦ inr (ne, get_or-set_other flags i n b false ne)
+-- what is read after a write, with either default
+written : (d : Bool) (flags : List Bool) (i n : ℕ) (b : Bool) → i < length flags →
+    ((n ≡ i) × (get_or (set flags i b) n d ≡ b)) ⊎ ((n ≢ i) × (get_or (set flags i b) n d ≡ get_or flags n d))
+written d flags i n b h = elim (cases_eq n i) [
+  | inl e ↦ inl (e, ap (λ k. get_or (set flags i b) k d) e ∙ get_or-set_same flags i b d h)
+  | inr ne ↦ inr (ne, get_or-set_other flags i n b d ne)
 ]
 
 abbrev pub Lists : Type 0
 Lists = List (Vec ℕ Global)
-
-pub no_more : (xs : List ℕ) → length xs ≡ 0 → xs ≡ []
-no_more [] e = refl
-no_more (x ∷ xs) e = absurd (omega arith)
 
 pub none_in : (x : ℕ) → Contains [] x → ⊥
 none_in x h = omega (arith, h.1)
@@ -60,16 +95,12 @@ listed_none [] all n = refl
 listed_none (v ∷ lists) all zero = All-head (λ list. list.items ≡ []) v lists all
 listed_none (v ∷ lists) all (suc n) = listed_none lists (All-tail (λ list. list.items ≡ []) v lists all) n
 
+listed_or : (lists : Lists) (k : ℕ) (d : Vec ℕ Global) → k < length lists → listed lists k ≡ (get_or lists k d).items
+listed_or lists k d lt = get_or-map (λ v. v.items) lists k d [] lt
+
 -- the list of a number that has one
 pub listed_at : (lists : Lists) (n : ℕ) (v : Vec ℕ Global) → n < length lists → v ≡ get_or lists n v → listed lists n ≡ v.items
-listed_at [] n v lt is = absurd (omega arith)
-listed_at (w ∷ lists) zero v lt is = ap (λ x. x.items) (sym is)
-listed_at (w ∷ lists) (suc n) v lt is = listed_at lists n v (omega arith) is
-
-listed_or : (lists : Lists) (k : ℕ) (d : Vec ℕ Global) → k < length lists → listed lists k ≡ (get_or lists k d).items
-listed_or [] k d lt = absurd (omega arith)
-listed_or (w ∷ lists) zero d lt = refl
-listed_or (w ∷ lists) (suc k) d lt = listed_or lists k d (omega arith)
+listed_at lists n v lt is = listed_or lists n v lt ∙ ap (λ x. x.items) (sym is)
 
 pub listed_within : (lists : Lists) (n h : ℕ) → Contains (listed lists n) h → n < length lists
 listed_within [] n h there = absurd (none_in h there)
@@ -85,34 +116,40 @@ pub listed_other : (lists : Lists) (n h : ℕ) (v : Vec ℕ Global) → h ≢ n 
 listed_other lists n h v ne =
     ap (λ l. get_or l h []) (map-set (λ w. w.items) lists n v) ∙ get_or-set_other (map (λ w. w.items) lists) n h v.items [] ne
 
-pub one_more_listed : (lists : Lists) (n x : ℕ) (v : Vec ℕ Global) → n < length lists → v.items ≡ listed lists n ++ x ∷ [] →
-    ListsOneMore lists (set lists n v) n x
-one_more_listed lists n x v lt is =
-    let here : listed (set lists n v) n ≡ listed lists n ++ x ∷ [] = listed_same lists n v lt ∙ is in
-    record {
-      same_length = length-set lists n v;
-      kept = λ h g there. ⊎_elim
-          (λ same. subst (λ k. Contains (listed (set lists n v) k) g) (sym same)
-          (subst (λ l. Contains l g) (sym here) (Contains-append_left (listed lists n) (x ∷ []) g (subst (λ k. Contains (listed lists k) g) same there))))
-          (λ ne. subst (λ l. Contains l g) (sym (listed_other lists n h v ne)) there)
-          (cases_eq h n);
-      there = λ _. subst (λ l. Contains l x) (sym here) (Contains-push (listed lists n) x);
-      only = λ h g there. ⊎_elim
-          (λ same. ⊎_elim
-          (λ old. inl (subst (λ k. Contains (listed lists k) g) (sym same) old))
-          (λ e. inr (same, sym e))
-          (Contains-push_cases (listed lists n) x g (subst (λ l. Contains l g) (ap (listed (set lists n v)) same ∙ here) there)))
-          (λ ne. inl (subst (λ l. Contains l g) (listed_other lists n h v ne) there))
-          (cases_eq h n);
-    }
+-- one more under the number of a link
+pub listed_more : (lists : Lists) (link : Link) (v : Vec ℕ Global) (at_once : Bool) → link.from < length lists → (not at_once || link.at_once) ≡ true →
+    v.items ≡ listed lists link.from ++ link.to ∷ [] →
+    (n : ℕ) → listed (set lists link.from v) n ≡ listed lists n ++ filter_map (way_from at_once n) (link ∷ [])
+listed_more lists link v at_once lt one is n =
+    let way : Bool → List ℕ = λ b. listed lists n ++ cons_option (if b then Some link.to else None) [] in
+    ⊎_elim
+    (λ same. ap (listed (set lists link.from v)) (sym same.1) ∙ listed_same lists link.from v lt ∙ is ∙ ap (λ k. listed lists k ++ link.to ∷ []) same.1
+    ∙ ap way (sym (and_from (link.from == n) (not at_once || link.at_once) same.0 one)))
+    (λ other. listed_other lists link.from n v (λ e. other.1 (sym e)) ∙ sym (append-nil (listed lists n))
+    ∙ ap way (sym (ap (λ b. b && (not at_once || link.at_once)) other.0)))
+    (eqb_tells link.from n)
 
--- one fewer in all
-pub total_less : (lists : Lists) (n x : ℕ) (v : Vec ℕ Global) → n < length lists → listed lists n ≡ v.items ++ x ∷ [] →
-    sum_by (λ w. length w.items) lists ≡ sum_by (λ w. length w.items) (set lists n v) + 1
-total_less lists n x v lt is =
+pub ways_only : (at_once : Bool) (links : List Link) (ways : Lists) → AreWays at_once links ways → (g h : ℕ) → Contains (listed ways g) h →
+    IsLink at_once links g h
+ways_only at_once links ways w g h there =
+    let p = picked (way_from at_once g) links h (subst (λ l. Contains l h) (w g) there) in
+    let is = given (p.from.from == g && (not at_once || p.from.at_once)) p.from.to h p.gives in
+    let both = and_parts (p.from.from == g) (not at_once || p.from.at_once) is.0 in
+    record { link = p.from; is_there = p.is_there; leads_from = eqb-true p.from.from g both.0; leads_to = is.1; is_one = both.1 }
+
+pub ways_all : (at_once : Bool) (links : List Link) (ways : Lists) → AreWays at_once links ways → (g h : ℕ) → IsLink at_once links g h →
+    Contains (listed ways g) h
+ways_all at_once links ways w g h l =
+    let both = and_from (l.link.from == g) (not at_once || l.link.at_once) (eq-eqb l.link.from g l.leads_from) l.is_one in
+    subst (λ xs. Contains xs h) (sym (w g))
+    (picks (way_from at_once g) links l.link h l.is_there (ap (λ b. if b then Some l.link.to else None) both ∙ ap Some l.leads_to))
+
+-- how many are listed in all
+pub total_set : (lists : Lists) (n : ℕ) (v : Vec ℕ Global) → n < length lists →
+    sum_by (λ w. length w.items) lists + length v.items ≡ sum_by (λ w. length w.items) (set lists n v) + length (listed lists n)
+total_set lists n v lt =
     let e = sum_by-set (λ w. length w.items) lists n v v lt in
     let same = ap length (listed_or lists n v lt) in
-    let more : length (listed lists n) ≡ length v.items + 1 = ap length is ∙ length-append v.items (x ∷ []) in
     omega arith
 
 pub room_kept : (links : List Link) (before after : List Bool) → length before ≡ length after → HasRoom links before → HasRoom links after
@@ -121,182 +158,127 @@ room_kept links before after long room = record {
   each = λ k d lt. let w = room.each k d lt in omega arith;
 }
 
-pub room_none : (links : List Link) (flags : List Bool) → 0 < length flags → HasRoom (take 0 links) flags
-room_none links flags h = record { whole = h; each = λ k d lt. absurd (omega arith) }
-
-pub same_one : (flags : List Bool) (b : Bool) → flags ≡ b ∷ [] → All (λ x. x ≡ b) flags
-same_one flags b one = subst (All (λ x. x ≡ b)) (sym one) only where
-  only : All (λ x. x ≡ b) (b ∷ [])
-  only zero d h = refl
-  only (suc k) d h = absurd (omega arith)
-
-pub room_more : (links : List Link) (before after : List Bool) (i : ℕ) (d link : Link) → i < length links → link ≡ get_or links i d →
-    length before ≤ length after → link.from < length after → HasRoom (take i links) before → HasRoom (take (i + 1) links) after
-room_more links before after i d link h at longer from room = record {
-  whole = omega (arith, room.whole);
-  each = All-more (λ l. l.from < length after) links i d h (λ k d lt. let w = room.each k d lt in omega arith) (subst (λ l. l.from < length after) at from);
-}
-
--- ---- what is set at first
-
-pub none_set : (flags : List Bool) → All (λ b. b ≡ false) flags → (n : ℕ) → flag flags n ≡ false
-none_set flags all n = elim (cases_lt n (length flags)) [ inl lt ↦ all n false lt | inr ge ↦ get_or_past flags n false ge ]
-
 -- what a call that was lent a list leaves of it
 pub written_back : {X : Type 0} (n : ℕ) (xs ys : List X) → n ≡ length ys → take n (ys ++ xs) ≡ ys
 written_back n xs ys h = ap (λ k. take k (ys ++ xs)) h ∙ take-append_seam ys xs
 
 -- ---- what is reached
 
-pub reaches_new : (flags : List Bool) (next : List ℕ) (m : ℕ) → m < length flags → flag flags m ≡ false →
-    Reaches (m ∷ []) flags (set flags m true) next (next ++ m ∷ [])
-reaches_new flags next m h off =
-    let long : length (set flags m true) ≡ length flags = length-set flags m true in
-    let less = one_less not flags m false true h (ap not off) refl in
-    let here : flag (set flags m true) m ≡ true = get_or-set_same flags m true false h in
-    record {
-      same_length = long;
-      kept = λ n at. elim (flag_written flags m n true h) [ inl w ↦ w.1 | inr w ↦ w.1 ∙ at ];
-      only = λ n at. elim (flag_written flags m n true h) [
-        | inl w ↦ inr (subst (Contains (m ∷ [])) (sym w.0) (contains_first m []))
-        | inr w ↦ inl (sym w.1 ∙ at)
-      ];
-      there = λ n there lt. elim (contains_cases m n [] there) [
-        | inl e ↦ ap (flag (set flags m true)) (sym e) ∙ here
-        | inr bad ↦ absurd (none_in n bad)
-      ];
-      waits = λ n at. elim (flag_written flags m n true h) [
-        | inl w ↦ inr (subst (Contains (next ++ m ∷ [])) (sym w.0) (Contains-push next m))
-        | inr w ↦ inl (sym w.1 ∙ at)
-      ];
-      still = λ n there. Contains-append_left next (m ∷ []) n there;
-      is_set = λ n there. elim (Contains-push_cases next m n there) [
-        | inl old ↦ inl old
-        | inr e ↦ inr (ap (flag (set flags m true)) (sym e) ∙ here)
-      ];
-      fewer = omega (arith, length-append next (m ∷ []));
-    }
+pub stays_set : (flags : List Bool) (i n : ℕ) → i < length flags → flag flags n ≡ true → flag (set flags i true) n ≡ true
+stays_set flags i n lt at = elim (written false flags i n true lt) [ inl w ↦ w.1 | inr w ↦ w.1 ∙ at ]
 
-pub reaches_more : (a b : List ℕ) (f g h : List Bool) (x y z : List ℕ) → Reaches a f g x y → Reaches b g h y z → Reaches (a ++ b) f h x z
-reaches_more a b f g h x y z p q = record {
-  same_length = q.same_length ∙ p.same_length;
-  kept = λ n at. q.kept n (p.kept n at);
-  only = λ n at. elim (q.only n at) [
-    | inl before ↦ elim (p.only n before) [ inl old ↦ inl old | inr there ↦ inr (Contains-append_left a b n there) ]
-    | inr there ↦ inr (Contains-append_right a b n there)
-  ];
-  there = λ n there lt. elim (Contains-append_cases a b n there) [
-    | inl left ↦ q.kept n (p.there n left lt)
-    | inr right ↦ q.there n right (omega (arith, p.same_length))
-  ];
-  waits = λ n at. elim (q.waits n at) [
-    | inl before ↦ elim (p.waits n before) [ inl old ↦ inl old | inr there ↦ inr (q.still n there) ]
-    | inr there ↦ inr there
-  ];
-  still = λ n there. q.still n (p.still n there);
-  is_set = λ n there. elim (q.is_set n there) [
-    | inl before ↦ elim (p.is_set n before) [ inl old ↦ inl old | inr at ↦ inr (q.kept n at) ]
-    | inr at ↦ inr at
-  ];
-  fewer = omega (arith, p.fewer, q.fewer);
-}
+-- the list of a number that was written, or another
+listed_cases : (lists : Lists) (n h : ℕ) (v : Vec ℕ Global) → n < length lists →
+    ((h ≡ n) × (listed (set lists n v) h ≡ v.items)) ⊎ ((h ≢ n) × (listed (set lists n v) h ≡ listed lists h))
+listed_cases lists n h v lt = elim (cases_eq h n) [
+  | inl e ↦ inl (e, ap (listed (set lists n v)) e ∙ listed_same lists n v lt)
+  | inr ne ↦ inr (ne, listed_other lists n h v ne)
+]
 
--- where it leads from one that is set, it leads to one that is set, if that has a flag
-abbrev StaysWithin : List Bool → Link → Type 0
-StaysWithin flags link = flag flags link.from ≡ true → link.to < length flags → flag flags link.to ≡ true
+abbrev IsMet : List Bool → List ℕ → ℕ → Type 0
+IsMet flags next h = (flag flags h ≡ true) ⊎ Contains next h
 
--- what is reached is set, where no link leads out
-reached_all : (links : List Link) (flags : List Bool) → HasRoom links flags → flag flags 0 ≡ true → All (StaysWithin flags) links → (n : ℕ) →
-    IsReached links n → n < length flags → flag flags n ≡ true
-reached_all links flags room whole stays n the_whole h = whole
-reached_all links flags room whole stays n (further {g} r l) h =
-    let inside = All-contains (λ x. x.from < length flags) links l.link room.each l.is_there in
-    let from : flag flags g ≡ true = reached_all links flags room whole stays g r (subst (λ x. x < length flags) l.leads_from inside) in
-    let on : StaysWithin flags l.link = All-contains (StaysWithin flags) links l.link stays l.is_there in
-    ap (flag flags) (sym l.leads_to) ∙ on (ap (flag flags) l.leads_from ∙ from) (subst (λ x. x < length flags) (sym l.leads_to) h)
-
--- what links lead to from a number that is set is set too, or the number comes next
-pub record IsReaching (links : List Link) (ways : List (Vec ℕ Global)) (flags : List Bool) (next : List ℕ) : Type 0 where
-  pub whole : flag flags 0 ≡ true
+-- a link is still to be followed, or leads to a number that is set or comes next; from what is set each was followed
+pub record IsReaching (links : List Link) (ways : Lists) (flags : List Bool) (next : List ℕ) : Type 0 where
   pub only : (n : ℕ) → flag flags n ≡ true → IsReached links n
-  pub is_set : (n : ℕ) → Contains next n → flag flags n ≡ true
-  pub on : (g : ℕ) → flag flags g ≡ true → Contains next g ⊎ ((h : ℕ) → Contains (listed ways g) h → h < length flags → flag flags h ≡ true)
+  pub waits : (n : ℕ) → Contains next n → IsReached links n
+  pub leads : (g h : ℕ) → Contains (listed ways g) h → IsLinked links g h
+  pub on : (g h : ℕ) → IsLinked links g h → Contains (listed ways g) h ⊎ (h < length flags → IsMet flags next h)
+  pub none : (g : ℕ) → flag flags g ≡ true → listed ways g ≡ []
+  pub whole : IsMet flags next 0
 
-pub reaching_first : (links : List Link) (ways : List (Vec ℕ Global)) (before flags : List Bool) (next : List ℕ) → 0 < length before →
-    All (λ b. b ≡ false) before → Reaches (0 ∷ []) before flags [] next → IsReaching links ways flags next
-reaching_first links ways before flags next whole clear r = record {
-  whole = r.there 0 (contains_first 0 []) whole;
-  only = λ n at. elim (r.only n at) [
-    | inl old ↦ absurd (both_ways (flag before n) (none_set before clear n) old)
-    | inr there ↦ elim (contains_cases 0 n [] there) [ inl e ↦ subst (IsReached links) e the_whole | inr bad ↦ absurd (none_in n bad) ]
-  ];
-  is_set = λ n there. elim (r.is_set n there) [ inl old ↦ absurd (none_in n old) | inr at ↦ at ];
-  on = λ g at. elim (r.waits g at) [
-    | inl old ↦ absurd (both_ways (flag before g) (none_set before clear g) old)
-    | inr there ↦ inl there
-  ];
+pub reaching_first : (links : List Link) (ways : Lists) (flags : List Bool) → AreWays false links ways → ((n : ℕ) → flag flags n ≡ false) →
+    IsReaching links ways flags (0 ∷ [])
+reaching_first links ways flags w clear = record {
+  only = λ n at. absurd (both_ways (flag flags n) (clear n) at);
+  waits = λ n there. ⊎_elim (λ e. subst (IsReached links) e the_whole) (λ bad. absurd (none_in n bad)) (contains_cases 0 n [] there);
+  leads = ways_only false links ways w;
+  on = λ g h l. inl (ways_all false links ways w g h l);
+  none = λ g at. absurd (both_ways (flag flags g) (clear g) at);
+  whole = inr (contains_first 0 []);
 }
 
-pub reaching_next : (links : List Link) (ways : List (Vec ℕ Global)) (before after : List Bool) (rest new : List ℕ) (m : ℕ) → AreWays false links ways →
-    IsReaching links ways before (rest ++ m ∷ []) → Reaches (listed ways m) before after rest new → IsReaching links ways after new
-reaching_next links ways before after rest new m w p r = record {
-  whole = r.kept 0 p.whole;
-  only = λ n at. elim (r.only n at) [
-    | inl old ↦ p.only n old
-    | inr there ↦ further (p.only m (p.is_set m (Contains-push rest m))) (w.only m n there)
-  ];
-  is_set = λ n there. elim (r.is_set n there) [
-    | inl old ↦ r.kept n (p.is_set n (Contains-append_left rest (m ∷ []) n old))
-    | inr at ↦ at
-  ];
-  on = λ g at. elim (r.waits g at) [
-    | inl old ↦ elim (p.on g old) [
-      | inl there ↦ elim (Contains-push_cases rest m g there) [
-        | inl still ↦ inl (r.still g still)
-        | inr e ↦ inr (λ h way lt. r.there h (subst (λ k. Contains (listed ways k) h) (sym e) way) (omega (arith, r.same_length)))
-      ]
-      | inr all ↦ inr (λ h way lt. r.kept h (all h way (omega (arith, r.same_length))))
-    ]
-    | inr there ↦ inl there
-  ];
-}
+module _ (links : List Link) (ways : Lists) (flags : List Bool) (rest : List ℕ) (m : ℕ) where
+  -- past a number without a flag
+  pub reaching_past : length flags ≤ m → 0 < length flags → IsReaching links ways flags (rest ++ m ∷ []) → IsReaching links ways flags rest
+  reaching_past past some p = record {
+    only = p.only;
+    waits = λ n there. p.waits n (Contains-append_left rest (m ∷ []) n there);
+    leads = p.leads;
+    on = λ g h l. ⊎_elim (λ there. inl there) (λ met. inr (λ lt. still h lt (met lt))) (p.on g h l);
+    none = p.none;
+    whole = still 0 some p.whole;
+  } where
+    still : (h : ℕ) → h < length flags → IsMet flags (rest ++ m ∷ []) h → IsMet flags rest h
+    still h lt met =
+        ⊎_elim
+        (λ at. inl at)
+        (λ there. ⊎_elim (λ old. inr old) (λ e. absurd (omega (arith, e, past, lt))) (Contains-push_cases rest m h there))
+        met
 
-pub reaching_done : (links : List Link) (ways : List (Vec ℕ Global)) (flags : List Bool) → AreWays false links ways → HasRoom links flags →
-    IsReaching links ways flags [] → AreReached links flags
-reaching_done links ways flags w room p = record {
-  room = room;
-  only = p.only;
-  all = reached_all links flags room p.whole stays;
-} where
-  stays : All (StaysWithin flags) links
-  stays k d lt at inside =
-      elim (p.on (get_or links k d).from at) [
-        | inl bad ↦ absurd (none_in (get_or links k d).from bad)
-        | inr all ↦ all (get_or links k d).to (w.all k d lt refl) inside
-      ]
+  pub reaching_next : (v : Vec ℕ Global) → m < length flags → m < length ways → v.items ≡ [] → IsReaching links ways flags (rest ++ m ∷ []) →
+      IsReaching links (set ways m v) (set flags m true) (rest ++ listed ways m)
+  reaching_next v lt within empty p = record {
+    only = λ n at. ⊎_elim (λ w. subst (IsReached links) (sym w.0) here) (λ w. p.only n (sym w.1 ∙ at)) (written false flags m n true lt);
+    waits = λ n there. ⊎_elim
+        (λ old. p.waits n (Contains-append_left rest (m ∷ []) n old))
+        (λ way. further here (p.leads m n way))
+        (Contains-append_cases rest (listed ways m) n there);
+    leads = λ g h there. ⊎_elim
+        (λ w. absurd (none_in h (subst (λ l. Contains l h) (w.1 ∙ empty) there)))
+        (λ w. p.leads g h (subst (λ l. Contains l h) w.1 there))
+        (listed_cases ways m g v within);
+    on = λ g h l. ⊎_elim
+        (λ there. ⊎_elim
+        (λ w. inr (λ _. inr (Contains-append_right rest (listed ways m) h (subst (λ k. Contains (listed ways k) h) w.0 there))))
+        (λ w. inl (subst (λ xs. Contains xs h) (sym w.1) there))
+        (listed_cases ways m g v within))
+        (λ met. inr (λ inside. still h (met (omega (arith, inside, length-set flags m true)))))
+        (p.on g h l);
+    none = λ g at. ⊎_elim
+        (λ w. w.1 ∙ empty)
+        (λ w. w.1 ∙ p.none g (sym (get_or-set_other flags m g true false w.0) ∙ at))
+        (listed_cases ways m g v within);
+    whole = still 0 p.whole;
+  } where
+    here : IsReached links m
+    here = p.waits m (Contains-push rest m)
+
+    still : (h : ℕ) → IsMet flags (rest ++ m ∷ []) h → IsMet (set flags m true) (rest ++ listed ways m) h
+    still h met =
+        ⊎_elim
+        (λ at. inl (stays_set flags m h lt at))
+        (λ there. ⊎_elim
+        (λ old. inr (Contains-append_left rest (listed ways m) h old))
+        (λ e. inl (ap (flag (set flags m true)) (sym e) ∙ get_or-set_same flags m true false lt))
+        (Contains-push_cases rest m h there))
+        met
+
+pub reaching_done : (links : List Link) (ways : Lists) (flags : List Bool) → HasRoom links flags → IsReaching links ways flags [] → AreReached links flags
+reaching_done links ways flags room p = record { room = room; only = p.only; all = all } where
+  is_set : (n : ℕ) → IsMet flags [] n → flag flags n ≡ true
+  is_set n met = ⊎_elim (λ at. at) (λ bad. absurd (none_in n bad)) met
+
+  all : (n : ℕ) → IsReached links n → n < length flags → flag flags n ≡ true
+  all n the_whole h = is_set n p.whole
+  all n (further {g} r l) h =
+      let inside = All-contains (λ x. x.from < length flags) links l.link room.each l.is_there in
+      let at = all g r (subst (λ x. x < length flags) l.leads_from inside) in
+      is_set n (⊎_elim (λ there. absurd (none_in n (subst (λ xs. Contains xs n) (p.none g at) there))) (λ met. met h) (p.on g n l))
 
 module _ (links : List Link) where
   -- the first link, and what is left
-  record Begins (n c : ℕ) : Type 0 where
-    pub to : ℕ
-    pub link : IsLinkedAtOnce links n to
-    pub rest : (c ≡ to) ⊎ LeadsOn links to c
-
-  begins : (n c : ℕ) → LeadsOn links n c → Begins n c
-  begins n c (by_one link) = record { to = c; link = link; rest = inl refl }
+  begins : (n c : ℕ) → LeadsOn links n c → (m : ℕ) × IsLinkedAtOnce links n m × ((c ≡ m) ⊎ LeadsOn links m c)
+  begins n c (by_one link) = (c, link, inl refl)
   begins n c (by_more {h} p q) =
       let b = begins n h p in
-      record {
-        to = b.to;
-        link = b.link;
-        rest = inr (elim b.rest [ inl e ↦ subst (λ x. LeadsOn links x c) e q | inr on ↦ by_more on q ]);
-      }
+      (b.0, b.1, inr (elim b.2 [ inl e ↦ subst (λ x. LeadsOn links x c) e q | inr on ↦ by_more on q ]))
 
   pub cycle_begins : (n : ℕ) → LeadsIntoCycle links n → (m : ℕ) × IsLinkedAtOnce links n m × LeadsIntoCycle links m
   cycle_begins n c =
       let from : LeadsOn links n c.on_cycle = elim c.leads [ inl e ↦ subst (λ x. LeadsOn links x c.on_cycle) e c.cycle | inr on ↦ on ] in
       let b = begins n c.on_cycle from in
-      (b.to, b.link, record { on_cycle = c.on_cycle; leads = b.rest; cycle = c.cycle })
+      (b.0, b.1, record { on_cycle = c.on_cycle; leads = b.2; cycle = c.cycle })
 
   module _ (flags : List Bool) where
     pub cycle_inside : HasRoom links flags → (n : ℕ) → LeadsIntoCycle links n → n < length flags
@@ -347,17 +329,9 @@ start_on start (x ∷ l) a h = subst (Contains (x ∷ (l ++ a ∷ []))) h (conta
 
 -- ---- what is done
 
-done_written : (done : List Bool) (i n : ℕ) (b : Bool) → i < length done →
-    ((n ≡ i) × (is_done (set done i b) n ≡ b)) ⊎ ((n ≢ i) × (is_done (set done i b) n ≡ is_done done n))
-done_written done i n b h = elim (cases_eq n i) [
-  | inl e ↦ inl (e, ap (is_done (set done i b)) e ∙ get_or-set_same done i b true h)
-  | inr ne ↦ inr (ne, get_or-set_other done i n b true ne)
-]
-
 pub undone_inside : (done : List Bool) (n : ℕ) → is_done done n ≡ false → n < length done
-undone_inside [] n h = cc
-undone_inside (x ∷ done) zero h = omega arith
-undone_inside (x ∷ done) (suc n) h = let more = undone_inside done n h in omega arith
+undone_inside done n h =
+    ⊎_elim (λ lt. lt) (λ ge. absurd (both_ways (is_done done n) h (get_or_past done n true ge))) (cases_lt n (length done))
 
 -- ---- a step
 
@@ -389,14 +363,14 @@ module _ (links : List Link) (start : ℕ) (ways : Lists) (seen done : List Bool
         only = s.only;
         all = λ m h link. elim (s.all m h link) [
           | inl there ↦ inl there
-          | inr d ↦ inr (elim (done_written done n h true inside) [ inl w ↦ w.1 | inr w ↦ w.1 ∙ d ])
+          | inr d ↦ inr (elim (written true done n h true inside) [ inl w ↦ w.1 | inr w ↦ w.1 ∙ d ])
         ];
-        none = λ m at c. elim (done_written done n m true inside) [
+        none = λ m at c. elim (written true done n m true inside) [
           | inl w ↦ none_here (subst (LeadsIntoCycle links) w.0 c)
           | inr w ↦ s.none m (sym w.1 ∙ at) c
         ];
         is_open = λ m at. elim (s.is_open m at) [
-          | inl d ↦ inl (elim (done_written done n m true inside) [ inl w ↦ w.1 | inr w ↦ w.1 ∙ d ])
+          | inl d ↦ inl (elim (written true done n m true inside) [ inl w ↦ w.1 | inr w ↦ w.1 ∙ d ])
           | inr there ↦ elim (Contains-push_cases before n m there) [
             | inl p ↦ inr p
             | inr e ↦ inl (ap (is_done (set done n true)) (sym e) ∙ get_or-set_same done n true true inside)
@@ -421,22 +395,21 @@ module _ (links : List Link) (start : ℕ) (ways : Lists) (seen done : List Bool
   dropped v lt is at = record {
     room = s.room;
     dones = s.dones;
-    only = λ m h there. elim (cases_eq m n) [
-      | inl e ↦ s.only m h (subst (λ k. Contains (listed ways k) h) (sym e)
-          (subst (λ l. Contains l h) (sym is) (Contains-append_left v.items (to ∷ []) h
-          (subst (λ l. Contains l h) (ap (listed (set ways n v)) e ∙ listed_same ways n v lt) there))))
-      | inr ne ↦ s.only m h (subst (λ l. Contains l h) (listed_other ways n m v ne) there)
-    ];
-    all = λ m h link. elim (s.all m h link) [
-      | inl there ↦ elim (cases_eq m n) [
-        | inl e ↦ elim (Contains-push_cases v.items to h (subst (λ l. Contains l h) (ap (listed ways) e ∙ is) there)) [
-          | inl p ↦ inl (subst (λ l. Contains l h) (sym (ap (listed (set ways n v)) e ∙ listed_same ways n v lt)) p)
-          | inr q ↦ inr (ap (is_done done) (sym q) ∙ at)
-        ]
-        | inr ne ↦ inl (subst (λ l. Contains l h) (sym (listed_other ways n m v ne)) there)
-      ]
-      | inr d ↦ inr d
-    ];
+    only = λ m h there. ⊎_elim
+        (λ w. s.only m h (subst (λ k. Contains (listed ways k) h) (sym w.0) (subst (λ l. Contains l h) (sym is)
+        (Contains-append_left v.items (to ∷ []) h (subst (λ l. Contains l h) w.1 there)))))
+        (λ w. s.only m h (subst (λ l. Contains l h) w.1 there))
+        (listed_cases ways n m v lt);
+    all = λ m h link. ⊎_elim
+        (λ there. ⊎_elim
+        (λ w. ⊎_elim
+        (λ p. inl (subst (λ l. Contains l h) (sym w.1) p))
+        (λ q. inr (ap (is_done done) (sym q) ∙ at))
+        (Contains-push_cases v.items to h (subst (λ l. Contains l h) (ap (listed ways) w.0 ∙ is) there)))
+        (λ w. inl (subst (λ l. Contains l h) (sym w.1) there))
+        (listed_cases ways n m v lt))
+        (λ d. inr d)
+        (s.all m h link);
     none = s.none;
     is_open = s.is_open;
     is_seen = s.is_seen;
@@ -454,11 +427,11 @@ entered links start ways seen done path to s lt chain begins = record {
   only = s.only;
   all = s.all;
   none = s.none;
-  is_open = λ m at. elim (flag_written seen to m true lt) [
+  is_open = λ m at. elim (written false seen to m true lt) [
     | inl w ↦ inr (subst (Contains (path ++ to ∷ [])) (sym w.0) (Contains-push path to))
     | inr w ↦ elim (s.is_open m (sym w.1 ∙ at)) [ inl d ↦ inl d | inr p ↦ inr (Contains-append_left path (to ∷ []) m p) ]
   ];
-  is_seen = λ m there. elim (flag_written seen to m true lt) [
+  is_seen = λ m there. elim (written false seen to m true lt) [
     | inl w ↦ w.1
     | inr w ↦ elim (Contains-push_cases path to m there) [ inl p ↦ w.1 ∙ s.is_seen m p | inr e ↦ absurd (w.0 (sym e)) ]
   ];
@@ -505,30 +478,6 @@ pub none_from : (links : List Link) (start : ℕ) (ways : Lists) (seen done : Li
     ¬ LeadsIntoCycle links n
 none_from links start ways seen done n s at = elim (s.is_open n at) [ inl d ↦ s.none n d | inr bad ↦ absurd (none_in n bad) ]
 
--- ---- less to do
-
-pub less_seen : (ways : Lists) (seen : List Bool) (path : List ℕ) (to : ℕ) → to < length seen → flag seen to ≡ false →
-    left_of ways (set seen to true) (path ++ to ∷ []) < left_of ways seen path
-less_seen ways seen path to lt at =
-    let less = one_less not seen to false true lt (ap not at) refl in
-    omega (arith, length-append path (to ∷ []))
-
-pub less_path : (ways : Lists) (seen : List Bool) (before : List ℕ) (n : ℕ) → left_of ways seen before < left_of ways seen (before ++ n ∷ [])
-less_path ways seen before n = omega (arith, length-append before (n ∷ []))
-
-pub less_ways : (ways : Lists) (seen : List Bool) (path : List ℕ) (n to : ℕ) (v : Vec ℕ Global) → n < length ways → listed ways n ≡ v.items ++ to ∷ [] →
-    left_of (set ways n v) seen path < left_of ways seen path
-less_ways ways seen path n to v lt is = let less = total_less ways n to v lt is in omega arith
-
-pub left_same : {ways w : Lists} {seen f : List Bool} {path p : List ℕ} (old : Lists) (before : List Bool) (from : List ℕ) → w ≡ ways → f ≡ seen → p ≡ path →
-    left_of ways seen path < left_of old before from → left_of w f p < left_of old before from
-left_same {ways} {w} {seen} {f} {path} {p} old before from a b c h =
-    subst (λ x. left_of x f p < left_of old before from) (sym a)
-    (subst (λ x. left_of ways x p < left_of old before from) (sym b) (subst (λ x. left_of ways seen x < left_of old before from) (sym c) h))
-
-pub stays_set : (flags : List Bool) (i n : ℕ) → i < length flags → flag flags n ≡ true → flag (set flags i true) n ≡ true
-stays_set flags i n lt at = elim (flag_written flags i n true lt) [ inl w ↦ w.1 | inr w ↦ w.1 ∙ at ]
-
 -- ---- at first
 
 pub room_all : (links : List Link) (seen : List Bool) (n : ℕ) → 0 < n → length seen ≡ n → All (λ link. link.from < n) links → HasRoom links seen
@@ -539,10 +488,8 @@ pub first_state : (links : List Link) (ways : Lists) (seen done : List Bool) (n 
 first_state links ways seen done n room long w unseen undone = record {
   room = room;
   dones = ap length undone ∙ length-replicate n false ∙ sym long;
-  only = w.only;
-  all = λ m h l.
-      let there = All-contains (λ link. link.at_once ≡ true → Contains (listed ways link.from) link.to) links l.link w.all l.is_there l.is_one in
-      inl (subst (Contains (listed ways m)) l.leads_to (subst (λ k. Contains (listed ways k) l.link.to) l.leads_from there));
+  only = ways_only true links ways w;
+  all = λ m h l. inl (ways_all true links ways w m h l);
   none = λ m at c.
       let lt = cycle_inside links seen room m c in
       both_ways (is_done done m) (ap (λ l. is_done l m) undone ∙ get_or-replicate n m false true (omega arith)) at;

@@ -1,5 +1,5 @@
 -- The spots of a tree, child by child, and where a reference stands behind a call of its group.
-use Rattle.std.proofs.Common.{◌≡◌, ℕ, ◌+◌, ◌<◌, ◌≤◌, Bool, true, false, List, [], ◌∷◌, ◌++◌, length, map, drop, get_or, filter_map, Option, Some, None, option_to_list, if◌then◌else◌, refl, sym, ap, ◌∙◌, ◌==◌, arith, append-nil, append_assoc, zero, suc, ⊎_elim, ◌&&◌, ◌||◌, Contains}
+use Rattle.std.proofs.Common.{◌≡◌, ℕ, ◌+◌, ◌<◌, ◌≤◌, Bool, true, false, List, [], ◌∷◌, ◌++◌, length, map, drop, get_or, filter_map, Option, Some, None, if◌then◌else◌, refl, sym, ap, ◌∙◌, ◌==◌, arith, append-nil, append_assoc, zero, suc, ⊎_elim, ◌&&◌, ◌||◌, Contains}
 use Rattle.std.specs.List.{cons_option, list_any}
 use Rattle.std.proofs.lemmas.List.Elements.{filter_map-append}
 use Rattle.std.proofs.lemmas.List.{length-map, drop_all}
@@ -17,11 +17,12 @@ use Rattle.fancy_analysis.specs.Links.{around_inside, follows, link_from, link_o
 use Rattle.fancy_analysis.specs.LateReads.{own_inside, meet, met_over, is_late, is_own_call, is_read_late}
 use Rattle.fancy_info.proofs.Children.{rest_at}
 use Rattle.fancy_info.proofs.Unfolded.{tree_out, each_here}
-use Rattle.fancy_analysis.proofs.InfoNodes.{sized_parts}
+use Rattle.fancy_analysis.proofs.InfoNodes.{absent_alike, sized_parts}
 use Rattle.std.specs.Prelude.{slice_get}
 use Rattle.std.proofs.lemmas.Bool.{and_from, and_parts, eqb-true, eq-eqb, or_cases, or_left, or_right}
+use Rattle.std.proofs.Math.Bool.{and-false, or-false}
 use Rattle.std.proofs.lemmas.List.Sums.{fold-append}
-use Rattle.std.proofs.lemmas.Option.{none-some}
+use Rattle.std.proofs.lemmas.Option.{none-some, same_Some}
 use Rattle.fancy_meaning.specs.Nodes.{nodes, as_group, groups}
 use Rattle.fancy_meaning.specs.AnalysisRefusals.{ReadsAfterCall, is_back_to, spots_in_group}
 use Rattle.fancy_analysis.specs.declared.late_reads.Met.{Met}
@@ -164,14 +165,10 @@ more_links links ss = links ++ filter_map link_of ss
 pub links-join : (links : List Link) (p q : List Spot) → more_links links (p ++ q) ≡ more_links (more_links links p) q
 links-join links p q = ap (λ l. links ++ l) (filter_map-append link_of p q) ∙ sym (append_assoc links (filter_map link_of p) (filter_map link_of q))
 
-one_link : (o : Option Link) → option_to_list o ≡ cons_option o []
-one_link None = refl
-one_link (Some x) = refl
-
 pub own_added : (i : Info) (a : Around) (before after : List Link) (o : Option Link) →
     o ≡ link_from (node_over (info_facts i).expr (info_facts i).start_group (info_facts i).within (trees (map info_tree (info_children i)))) a →
-    after ≡ before ++ option_to_list o → after ≡ more_links before (spot a (info_tree i) ∷ [])
-own_added i a before after o is added = added ∙ ap (λ x. before ++ x) (one_link o ∙ ap (λ x. cons_option x []) (is ∙ ap (λ t. link_from t a) (sym (tree_out i))))
+    after ≡ before ++ cons_option o [] → after ≡ more_links before (spot a (info_tree i) ∷ [])
+own_added i a before after o is added = added ∙ ap (λ x. before ++ cons_option x []) (is ∙ ap (λ t. link_from t a) (sym (tree_out i)))
 
 pub links-whole : (whole t : Tree) → t ≡ whole → links_at whole (record { owner = 0; position = 0; is_skipped = false }) t ≡ links_of whole
 unfolding links_at links_of all_spots
@@ -196,9 +193,6 @@ owner_kept P whole t false next first p q = q
 pub met-append : (g : ℕ) (m : Met) (xs ys : List Spot) → met_over g m (xs ++ ys) ≡ met_over g (met_over g m xs) ys
 met-append g m xs ys = fold-append (λ m s. meet g (s.owner == g) s.node m) m xs ys
 
-some_is : {X : Type 0} (y x : X) → Some y ≡ Some x → y ≡ x
-some_is y x e = cc
-
 abbrev reads : ℕ → List Spot → Bool
 reads g ss = list_any (λ s. is_back_to g s.node) ss
 
@@ -219,9 +213,7 @@ past_read false true q y l = refl
 past_read false false q y l = refl
 
 past_none : (r c : Bool) → r ≡ ((r || (c && false)) || false)
-past_none true c = refl
-past_none false true = refl
-past_none false false = refl
+past_none r c = sym (or-false (r || (c && false)) ∙ ap (λ b. r || b) (and-false c) ∙ or-false r)
 
 module _ (g : ℕ) where
   past_node : (own : Bool) (t : Tree) (m : Met) (y l : Bool) → in_all (meet g own t m) y l ≡ in_all m (is_back_to g t || y) ((is_own_call g own t && y) || l)
@@ -283,7 +275,7 @@ module _ (g : ℕ) where
   reads_found : (ss : List Spot) (k : ℕ) (s : Spot) (casei : Bool) → slice_get ss k ≡ Some s → s.node ≡ Backref g casei → reads g ss ≡ true
   reads_found [] k s casei at is = absurd (none-some s at)
   reads_found (x ∷ ss) zero s casei at is =
-      or_left _ _ (ap (λ y. is_back_to g y.node) (some_is x s at) ∙ ap (is_back_to g) is ∙ eq-eqb g g refl)
+      or_left _ _ (ap (λ y. is_back_to g y.node) (same_Some x s at) ∙ ap (is_back_to g) is ∙ eq-eqb g g refl)
   reads_found (x ∷ ss) (suc k) s casei at is = or_right _ _ (reads_found ss k s casei at is)
 
   late_found : (ss : List Spot) (i j : ℕ) (c s : Spot) (casei : Bool) → i < j → slice_get ss i ≡ Some c → c.node ≡ SubroutineCall g → c.owner ≡ g →
@@ -291,7 +283,7 @@ module _ (g : ℕ) where
   late_found [] i j c s casei lt at call own at_read read = absurd (none-some c at)
   late_found (x ∷ ss) i zero c s casei lt at call own at_read read = absurd (omega (arith, lt))
   late_found (x ∷ ss) zero (suc j) c s casei lt at call own at_read read =
-      or_left _ _ (and_from _ _ (ap (λ y. is_own_call g (y.owner == g) y.node) (some_is x c at) ∙ ap (is_own_call g (c.owner == g)) call
+      or_left _ _ (and_from _ _ (ap (λ y. is_own_call g (y.owner == g) y.node) (same_Some x c at) ∙ ap (is_own_call g (c.owner == g)) call
       ∙ and_from _ _ (eq-eqb c.owner g own) (eq-eqb g g refl)) (reads_found ss j s casei at_read read))
   late_found (x ∷ ss) (suc i) (suc j) c s casei lt at call own at_read read =
       or_right _ _ (late_found ss i j c s casei (omega (arith, lt)) at call own at_read read)
@@ -333,15 +325,9 @@ late_group whole t g e is =
     ∙ met-late g (record { call = false; read_after = false }) (spots_in_group whole g e)
     ∙ sym (ap (is_read_late whole) is)
 
-absent_late : (whole : Tree) (a : Absent) (ts : Trees) → is_read_late whole (absent_over a ts) ≡ false
-absent_late whole (code_absent.Repeater' b e) ts = refl
-absent_late whole (code_absent.Expression' b a c e) ts = refl
-absent_late whole (code_absent.Stopper' b e) ts = refl
-absent_late whole code_absent.Clear ts = refl
-
 over_late : (whole : Tree) (e : Expr) (n : ℕ) (w : Within) (ts : Trees) → ((x : _) → e ≡ code.Group x → ⊥) → is_read_late whole (node_over e n w ts) ≡ false
 over_late whole (code.Group' b x) n w ts h = absurd (h _ refl)
-over_late whole (code.Absent a) n w ts h = absent_late whole a ts
+over_late whole (code.Absent a) n w ts h = absent_alike (is_read_late whole) false (λ y. refl) (λ y z. refl) (λ y. refl) refl a ts
 over_late whole e n w ts h = refl
 
 pub no_group_late : (whole : Tree) (i : Info) → ((x : _) → (info_facts i).expr ≡ code.Group x → ⊥) → is_read_late whole (info_tree i) ≡ false

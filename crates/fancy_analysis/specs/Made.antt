@@ -1,5 +1,5 @@
 -- A node's size and hardness from those of its children, when an `Info` was made right, and what a visit gives.
-use Rattle.std.specs.Prelude.{◌≡◌, ℕ, zero, suc, ◌+◌, Bool, true, false, ◌&&◌, ◌||◌, not, ◌==◌, List, [], ◌∷◌, ◌++◌, map, length, slice_index_or}
+use Rattle.std.specs.Prelude.{◌≡◌, ℕ, ◌+◌, Bool, true, false, ◌&&◌, ◌||◌, not, ◌==◌, List, [], ◌∷◌, ◌++◌, map, length, slice_index_or}
 use Rattle.fancy_meaning.specs.Tree.{Tree, trees}
 use Rattle.fancy_meaning.specs.Nodes.{group_count, groups, is_read}
 use Rattle.fancy_meaning.specs.Options.{Analysis, AnalysisOptions}
@@ -24,9 +24,7 @@ use Rattle.fancy_expr.specs.declared.expr.Absent.TheVariants as code_absent
 use Rattle.fancy_expr.specs.declared.expr.Expr.TheVariants as code
 
 abbrev pub nth_size : List Size → ℕ → Size
-nth_size [] i = exactly 0
-nth_size (s ∷ ss) zero = s
-nth_size (s ∷ ss) (suc i) = nth_size ss i
+nth_size sizes i = slice_index_or sizes i (exactly 0)
 
 abbrev pub absent_size : Absent → List Size → Size
 absent_size (code_absent.Repeater' b e) sizes = between 0 usize_max

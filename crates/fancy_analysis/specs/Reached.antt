@@ -1,5 +1,5 @@
 -- What links reach, what leads into a cycle, and the depth-first search for one.
-use Rattle.std.specs.Prelude.{◌≡◌, ℕ, ◌<◌, Bool, true, false, not, ◌||◌, ◌⊎◌, ◌+◌, ◌≤◌, List, [], Vec, length, map, Contains, All, slice_index_or, count_by, ◌*◌, ◌∷◌, ◌++◌, sum_by}
+use Rattle.std.specs.Prelude.{◌≡◌, ℕ, ◌<◌, Bool, true, false, not, ◌||◌, ◌&&◌, ◌==◌, if◌then◌else◌, ◌⊎◌, ◌+◌, ◌≤◌, List, [], Option, Some, None, filter_map, Vec, length, map, Contains, All, slice_index_or, count_by, ◌*◌, ◌∷◌, ◌++◌, sum_by}
 use Rattle.std.specs.Global.{Global}
 use Rattle.fancy_analysis.specs.declared.links.Link.{Link}
 use Rattle.fancy_analysis.specs.declared.cycle_search.CycleSearch.{CycleSearch}
@@ -42,12 +42,9 @@ flag flags n = slice_index_or flags n false
 abbrev pub listed : List (Vec ℕ Global) → ℕ → List ℕ
 listed lists g = slice_index_or (map (λ v. v.items) lists) g []
 
--- one number more stands in the list of another, if it has one
-pub record ListsOneMore (old new : List (Vec ℕ Global)) (number to : ℕ) : Type 0 where
-  pub same_length : length new ≡ length old
-  pub kept : (h g : ℕ) → Contains (listed old h) g → Contains (listed new h) g
-  pub there : number < length new → Contains (listed new number) to
-  pub only : (h g : ℕ) → Contains (listed new h) g → Contains (listed old h) g ⊎ ((h ≡ number) × (g ≡ to))
+-- where a link leads from a number, if it is one, or a link at once
+abbrev pub way_from : Bool → ℕ → Link → Option ℕ
+way_from at_once n link = if link.from == n && (not at_once || link.at_once) then Some link.to else None
 
 -- so many are not set
 abbrev pub unset_count : List Bool → ℕ
@@ -59,21 +56,8 @@ pub record HasRoom (links : List Link) (flags : List Bool) : Type 0 where
   pub each : All (λ link. link.from < length flags) links
 
 -- under each number, to where links lead from it, or links at once
-pub record AreWays (at_once : Bool) (links : List Link) (ways : List (Vec ℕ Global)) : Type 0 where
-  pub only : (g h : ℕ) → Contains (listed ways g) h → IsLink at_once links g h
-  pub all : All (λ link. (not at_once || link.at_once) ≡ true → Contains (listed ways link.from) link.to) links
-
--- the flags of these numbers are set, and the numbers whose flags were not yet set are added to those that come next
-pub record Reaches (numbers : List ℕ) (before after : List Bool) (old new : List ℕ) : Type 0 where
-  pub same_length : length after ≡ length before
-  pub kept : (n : ℕ) → flag before n ≡ true → flag after n ≡ true
-  pub only : (n : ℕ) → flag after n ≡ true → (flag before n ≡ true) ⊎ Contains numbers n
-  pub there : (n : ℕ) → Contains numbers n → n < length before → flag after n ≡ true
-  pub waits : (n : ℕ) → flag after n ≡ true → (flag before n ≡ true) ⊎ Contains new n
-  pub still : (n : ℕ) → Contains old n → Contains new n
-  pub is_set : (n : ℕ) → Contains new n → Contains old n ⊎ (flag after n ≡ true)
-  -- each that is added had a flag that was not set
-  pub fewer : unset_count after + length new ≤ unset_count before + length old
+abbrev pub AreWays : Bool → List Link → List (Vec ℕ Global) → Type 0
+AreWays at_once links ways = (n : ℕ) → listed ways n ≡ filter_map (way_from at_once n) links
 
 -- the numbers that are set are those that are reached, of all that have a flag
 pub record AreReached (links : List Link) (flags : List Bool) : Type 0 where

@@ -142,8 +142,9 @@ pub fn ends_within(alloc: Global, root: &Info, most: usize) -> Result<Option<boo
         (most < ending_rounds whole (flag_count root.now))
         (λ _. ending_rounds whole (flag_count root.now) ≤ most)) }
 {
-    let mut flags = no_flags(alloc, root.end_group.max(1))?;
-    for round in 0..flags.len() {
+    let count = root.end_group.max(1);
+    let mut flags = no_flags(alloc, count)?;
+    for round in 0..count {
         let next = next_flags(alloc, root, &flags)?;
         if next == flags {
             return Ok(Some(flags[0]));

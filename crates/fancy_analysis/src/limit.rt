@@ -1,6 +1,6 @@
 //! Whether the analysis of a tree is within a limit: how many nodes are looked at in rounds that change something.
 
-ghost use Rattle.std.specs.Prelude.{◌≡◌, ◌+◌, ◌^◌, ◌<◌, ◌≤◌, ◌/◌, IfOk, IsFalse, IsTrue, MatchOption, length, map, suc, true};
+ghost use Rattle.std.specs.Prelude.{◌≡◌, ◌↔◌, ◌+◌, ◌^◌, ◌<◌, ◌≤◌, ◌/◌, IfOk, IsFalse, IsTrue, MatchOption, length, map, suc, true};
 ghost use Rattle.std.specs.List.{list_any};
 ghost use Rattle.fancy_meaning.specs.Nodes.{group_count};
 ghost use Rattle.fancy_meaning.specs.Sizes.{known_of};
@@ -58,10 +58,8 @@ fn are_few_endings(
 ) -> Result<bool, AllocError>
     requires fits { 1 + group_count (tree_of expr.now) < 2 ^ 64 }
     requires known { map size_of known.now ≡ known_of (whole_of expr.now) }
-    ensures few { IfOk result (λ few. IsTrue few →
-        ending_rounds (whole_of expr.now) (suc (group_count (whole_of expr.now))) ≤ most) }
-    ensures over { IfOk result (λ few. IsFalse few →
-        most < ending_rounds (whole_of expr.now) (suc (group_count (whole_of expr.now)))) }
+    ensures { IfOk result (λ few. IsTrue few ↔
+        (ending_rounds (whole_of expr.now) (suc (group_count (whole_of expr.now))) ≤ most)) }
 {
     let tables = VisitTables {
         context: AnalyzeContext::default(),
@@ -77,8 +75,7 @@ fn are_few_rounds(alloc: Global, tree: &ExprTree, most: usize) -> Result<bool, A
     requires groups { tree.now.total_groups ≡ group_count (tree_of tree.now.expr) }
     requires bound { tree.now.total_groups ≤ most_groups }
     requires named { list_any names_one (exprs tree.now.expr) ≡ true }
-    ensures few { IfOk result (λ few. IsTrue few → analysis_rounds tree.now.expr ≤ most) }
-    ensures over { IfOk result (λ few. IsFalse few → most < analysis_rounds tree.now.expr) }
+    ensures { IfOk result (λ few. IsTrue few ↔ (analysis_rounds tree.now.expr ≤ most)) }
 {
     match sizes_by_rounds(alloc, tree, AnalyzeContext::default(), &[], 1, most)? {
         Some(rounds) => {

@@ -1,6 +1,7 @@
 //! Links from target to target: the tracked calls of a tree, and its outer groups.
 
-ghost use Rattle.std.specs.Prelude.{◌≡◌, ◌++◌, ◌||◌, IfOk, not, option_to_list};
+ghost use Rattle.std.specs.Prelude.{◌≡◌, ◌++◌, ◌||◌, [], IfOk, not};
+ghost use Rattle.std.specs.List.{cons_option};
 ghost use Rattle.fancy_meaning.specs.Sizes.{known_of, size};
 ghost use Rattle.fancy_meaning.specs.Spots as plain_spots;
 ghost use Rattle.fancy_meaning.specs.Tree as plain;
@@ -137,7 +138,7 @@ fn own_link(expr: &Expr, number: usize, around: Around) -> Option<Link>
 }
 
 fn add_link(link: Option<Link>, links: &mut Vec<Link>) -> Result<(), AllocError>
-    ensures { IfOk result (λ _. links.new.items ≡ links.old.items ++ option_to_list link) }
+    ensures { IfOk result (λ _. links.new.items ≡ links.old.items ++ cons_option link []) }
 {
     if let Some(link) = link {
         links.push(link)?;

@@ -1,9 +1,10 @@
 //! The targets that links reach, as a set of flags.
 
-ghost use Rattle.std.specs.Prelude.{◌≡◌, ◌<◌, ◌≤◌, ◌∷◌, [], All, IfOk, false, length};
-ghost use Rattle.fancy_analysis.specs.Reached.{AreReached, AreWays, HasRoom, ListsOneMore, Reaches, flag};
+ghost use Rattle.std.specs.Prelude.{◌≡◌, ◌<◌, ◌∷◌, ◌++◌, ℕ, [], All, IfOk, false, filter_map, length};
+ghost use Rattle.fancy_analysis.specs.Reached.{AreReached, AreWays, HasRoom, flag, listed, way_from};
 
 use crate::links::Link;
+use crate::reads::no_flags;
 use std::alloc::{AllocError, Global};
 
 pub fn is_set(flags: &[bool], number: usize) -> bool
@@ -15,28 +16,17 @@ pub fn is_set(flags: &[bool], number: usize) -> bool
     }
 }
 
-/// Adds clear flags up to that of a number.
-fn add_flags(flags: &mut Vec<bool>, number: usize) -> Result<(), AllocError>
-    ensures room { IfOk result (λ _. number < length flags.new.items) }
-    ensures more { length flags.old.items ≤ length flags.new.items }
-    ensures clear { All (λ b. b ≡ false) flags.old.items → All (λ b. b ≡ false) flags.new.items }
-{
-    while flags.len() <= number {
-        flags.push(false)?;
-    }
-    Ok(())
-}
-
 /// A clear flag for 0 and for each number from which a link leads, and for all below.
 fn flags_for(alloc: Global, links: &[Link]) -> Result<Vec<bool>, AllocError>
     ensures room { IfOk result (λ v. HasRoom links.now v.items) }
-    ensures clear { IfOk result (λ v. All (λ b. b ≡ false) v.items) }
+    ensures clear { IfOk result (λ v. (n : ℕ) → flag v.items n ≡ false) }
 {
-    let mut flags = Vec::new(alloc);
-    flags.push(false)?;
+    let mut last = 0;
     for link in links {
-        add_flags(&mut flags, link.from)?;
+        last = last.max(link.from);
     }
+    let mut flags = no_flags(alloc, last)?;
+    flags.push(false)?;
     Ok(flags)
 }
 
@@ -51,14 +41,17 @@ pub fn no_lists(alloc: Global, count: usize) -> Result<Vec<Vec<usize>>, AllocErr
     Ok(lists)
 }
 
-/// Adds to the list of a number, if it has one.
-fn list_under(lists: &mut Vec<Vec<usize>>, number: usize, to: usize) -> Result<(), AllocError>
-    ensures { IfOk result (λ _. ListsOneMore lists.old.items lists.new.items number to) }
+/// Adds where a link leads to the list of its number, if it is one of those.
+fn list_link(lists: &mut Vec<Vec<usize>>, link: Link, at_once: bool) -> Result<(), AllocError>
+    requires { link.from < length lists.now.items }
+    ensures length { IfOk result (λ _. length lists.new.items ≡ length lists.old.items) }
+    ensures listed { IfOk result (λ _. (n : ℕ) → listed lists.new.items n
+        ≡ listed lists.old.items n ++ filter_map (way_from at_once n) (link ∷ [])) }
 {
-    if number >= lists.len() {
+    if !link.is_one(at_once) {
         return Ok(());
     }
-    lists[number].push(to)?;
+    lists[link.from].push(link.to)?;
     Ok(())
 }
 
@@ -75,34 +68,9 @@ pub fn ways(
 {
     let mut ways = no_lists(alloc, numbers)?;
     for link in links {
-        if link.is_one(at_once) {
-            list_under(&mut ways, link.from, link.to)?;
-        }
+        list_link(&mut ways, *link, at_once)?;
     }
     Ok(ways)
-}
-
-/// Sets the flag of a number, if it has one, and adds the number if its flag was clear.
-fn reach(number: usize, flags: &mut [bool], next: &mut Vec<usize>) -> Result<(), AllocError>
-    ensures { IfOk result (λ _. Reaches (number ∷ []) flags.old flags.new next.old.items
-        next.new.items) }
-{
-    if number < flags.len() && !flags[number] {
-        flags[number] = true;
-        next.push(number)?;
-    }
-    Ok(())
-}
-
-/// The same for each of these numbers.
-fn reach_all(numbers: &[usize], flags: &mut [bool], next: &mut Vec<usize>) -> Result<(), AllocError>
-    ensures { IfOk result (λ _. Reaches numbers.now flags.old flags.new next.old.items
-        next.new.items) }
-{
-    for number in numbers {
-        reach(*number, flags, next)?;
-    }
-    Ok(())
 }
 
 /// Which targets are reached from the whole tree.
@@ -110,11 +78,16 @@ pub fn reached(alloc: Global, links: &[Link]) -> Result<Vec<bool>, AllocError>
     ensures { IfOk result (λ v. AreReached links.now v.items) }
 {
     let mut flags = flags_for(alloc, links)?;
-    let ways = ways(alloc, links, flags.len(), false)?;
+    let mut ways = ways(alloc, links, flags.len(), false)?;
     let mut next = Vec::new(alloc);
-    reach(0, &mut flags, &mut next)?;
+    next.push(0)?;
     while let Some(number) = next.pop() {
-        reach_all(&ways[number], &mut flags, &mut next)?;
+        if number >= flags.len() {
+            continue;
+        }
+        flags[number] = true;
+        next.extend_from_slice(&ways[number])?;
+        ways[number].clear();
     }
     Ok(flags)
 }

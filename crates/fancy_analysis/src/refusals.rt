@@ -126,11 +126,11 @@ pub fn call_refusal(
     if reads_after_call(root) {
         return Ok(Some(CompileError::FeatureNotYetSupported));
     }
-    if let Some(text) = left_recursion(alloc, root, &tree.named_groups)? {
-        return Ok(Some(CompileError::LeftRecursiveSubroutineCall(text)));
-    }
     if !has_node(&tree.expr, Question::IsCall) {
         return Ok(None);
+    }
+    if let Some(text) = left_recursion(alloc, root, &tree.named_groups)? {
+        return Ok(Some(CompileError::LeftRecursiveSubroutineCall(text)));
     }
     if can_end(alloc, root)? {
         Ok(None)

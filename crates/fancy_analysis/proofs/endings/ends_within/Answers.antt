@@ -22,8 +22,7 @@ returns-then-eq c =
     let some : 0 < length flags = omega (arith, c.loop-round.invariant.long) in
     let first : c.index.result.now ≡ slice_index_or flags 0 false = c.index.ensures ∙ get_or_default flags 0 c.index.result.now false some in
     let same : next ≡ flags = (slice_eq-Decides booleans_Decides next flags _ c.eq.ensures).0 c.if-eq.true in
-    let made = ap length c.in_ok-flags.ensures ∙ length-replicate c.max.result false ∙ c.max.ensures in
-    let lt : c.loop-round.round < n = omega (arith, c.loop-round-test.true, c.len-round-end.ensures, made, c.in_ok-flags.flags.ok.0) in
+    let lt : c.loop-round.round < n = omega (arith, c.loop-round-test.true, c.max-count.ensures) in
     let is_next : (whole : Tree) (w : IsRootOf whole root) → NextFlags whole flags next =
     λ whole w. next_of_root whole root w flags c.deref.result.now next (c.in_ok-next.ensures.flags _ w.sized) held in
     record {
@@ -49,8 +48,7 @@ returns-then-round-most c =
     let next = c.in_ok-next.next.items in
     let held : c.deref.result.now ≡ flags = c.deref.ensures.value in
     let long : length next ≡ length flags = c.in_ok-next.ensures.length ∙ ap length held in
-    let made = ap length c.in_ok-flags.ensures ∙ length-replicate c.max.result false ∙ c.max.ensures in
-    let lt : c.loop-round.round < n = omega (arith, c.loop-round-test.true, c.len-round-end.ensures, made, c.in_ok-flags.flags.ok.0) in
+    let lt : c.loop-round.round < n = omega (arith, c.loop-round-test.true, c.max-count.ensures) in
     record {
       ends = λ whole w. tt;
       rounds = λ whole w.
@@ -64,7 +62,7 @@ pub loop-round-init : goal.loop-round-init
 unfolding ending_rounds
 loop-round-init c =
     let n = flag_count c.args.root.now in
-    let none : c.in_ok-flags.flags.items ≡ replicate n false = c.in_ok-flags.ensures ∙ ap (λ k. replicate k false) c.max.ensures in
+    let none : c.in_ok-flags.flags.items ≡ replicate n false = c.in_ok-flags.ensures ∙ ap (λ k. replicate k false) c.max-count.ensures in
     record {
       long = ap length none ∙ length-replicate n false;
       few = omega arith;
@@ -82,8 +80,7 @@ loop-round-preserved c =
     let next = c.in_ok-next.next.items in
     let held : c.deref.result.now ≡ flags = c.deref.ensures.value in
     let long : length next ≡ length flags = c.in_ok-next.ensures.length ∙ ap length held in
-    let made = ap length c.in_ok-flags.ensures ∙ length-replicate c.max.result false ∙ c.max.ensures in
-    let lt : c.loop-round.round < n = omega (arith, c.loop-round-test.true, c.len-round-end.ensures, made, c.in_ok-flags.flags.ok.0) in
+    let lt : c.loop-round.round < n = omega (arith, c.loop-round-test.true, c.max-count.ensures) in
     let is_next : (whole : Tree) (w : IsRootOf whole root) → NextFlags whole flags next =
     λ whole w. next_of_root whole root w flags c.deref.result.now next (c.in_ok-next.ensures.flags _ w.sized) held in
     record {
@@ -107,8 +104,7 @@ returns c =
     let n = flag_count root in
     let flags = c.loop-round.flags.items in
     let some : 0 < length flags = omega (arith, c.loop-round.invariant.long) in
-    let made = ap length c.in_ok-flags.ensures ∙ length-replicate c.max.result false ∙ c.max.ensures in
-    let end : c.loop-round.round ≡ n = omega (arith, c.loop-round-test.false, c.loop-round.auto.round-end, c.len-round-end.ensures, made, c.in_ok-flags.flags.ok.0) in
+    let end : c.loop-round.round ≡ n = omega (arith, c.loop-round-test.false, c.loop-round.auto.round-end, c.max-count.ensures) in
     let first : c.index-2.result.now ≡ slice_index_or flags 0 false = c.index-2.ensures ∙ get_or_default flags 0 c.index-2.result.now false some in
     record {
       ends = λ whole w.

@@ -1,21 +1,14 @@
-use Rattle.std.proofs.Common.{◌≡◌, sym, ap, ◌∙◌, refl}
-use Rattle.fancy_expr.specs.declared.expr.Absent.TheVariants as code_absent
+use Rattle.std.proofs.Common.{sym, ap, ◌∙◌, refl}
 use Rattle.fancy_analysis.specs.LateReads.{meet}
-use Rattle.fancy_info.specs.Infos.{absent_over, node_over}
+use Rattle.fancy_info.specs.Infos.{node_over}
+use Rattle.fancy_analysis.proofs.InfoNodes.{absent_alike}
 use Rattle.fancy_analysis.proofs.late_reads.meet.Goals as goal
 
 pub returns-in-Absent : goal.returns-in-Absent
 returns-in-Absent c = λ n w es.
-    let g = c.args.group in
-    let own = c.args.own in
-    let met = c.args.met in
-    sym (ap (λ x. meet g own (node_over x n w es) met) c.in-Absent.is
-    ∙ elim c.in-Absent.field-0 as (λ x. meet g own (absent_over x es) met ≡ met) [
-      | code_absent.Repeater' b y ↦ refl
-      | code_absent.Expression' b y d z ↦ refl
-      | code_absent.Stopper' b y ↦ refl
-      | code_absent.Clear ↦ refl
-    ])
+    let past = meet c.args.group c.args.own in
+    sym (ap (λ x. past (node_over x n w es) c.args.met) c.in-Absent.is
+    ∙ absent_alike (λ t. past t c.args.met) c.args.met (λ y. refl) (λ y z. refl) (λ y. refl) refl c.in-Absent.field-0 es)
 
 pub returns-then-met : goal.returns-then-met
 returns-then-met c = λ n w es. rw (c.in-SubroutineCall.is, c.if-met.true)

@@ -1,4 +1,4 @@
-use Rattle.std.proofs.Common.{◌≡◌, ◌≤◌, ◌<◌, suc, arith, ◌∙◌, sym, subst}
+use Rattle.std.proofs.Common.{◌≡◌, ◌≤◌, ◌<◌, ◌↔◌, suc, IsTrue, MatchOption, arith, sym, subst}
 use Rattle.fancy_meaning.specs.Nodes.{group_count}
 use Rattle.fancy_meaning.specs.Numbering.{numbered}
 use Rattle.fancy_meaning.specs.Tree.{NoLook}
@@ -21,9 +21,8 @@ returns c =
     root_visited _ e 1 info (omega arith) c.in_ok-root.ensures (same_agree _ _ (exprs e) c.requires.known) in
     let count : flag_count info ≡ suc (group_count whole) =
     omega (arith, c.in_ok-root.ensures.end_group, count-numbered NoLook 1 (tree_of e)) in
-    let rounds = told c.in_ok-ends_within.field-0 (c.args.most < ending_rounds whole (flag_count info)) (ending_rounds whole (flag_count info) ≤ c.args.most)
+    let rounds = subst (λ n. MatchOption c.in_ok-ends_within.field-0 (c.args.most < ending_rounds whole n) (λ _. ending_rounds whole n ≤ c.args.most)) count
     (c.in_ok-ends_within.ensures.rounds whole is) in
-    record {
-      few = λ t. subst (λ n. ending_rounds whole n ≤ c.args.most) count (rounds.0 (sym c.is_some.ensures ∙ t));
-      over = λ f. subst (λ n. c.args.most < ending_rounds whole n) count (rounds.1 (sym c.is_some.ensures ∙ f));
-    }
+    subst (λ b. IsTrue b ↔ (ending_rounds whole (suc (group_count whole)) ≤ c.args.most)) (sym c.is_some.ensures)
+    (told c.in_ok-ends_within.field-0 (c.args.most < ending_rounds whole (suc (group_count whole)))
+    (ending_rounds whole (suc (group_count whole)) ≤ c.args.most) rounds (λ over few. omega (arith, over, few)))

@@ -1,4 +1,4 @@
-use Rattle.std.proofs.Common.{◌≡◌, ◌≤◌, ◌<◌, ◌-◌, ℕ, suc, false, true, map, IsTrue, IsFalse, MatchOption, arith, ap, ◌∙◌, sym, subst}
+use Rattle.std.proofs.Common.{◌≡◌, ◌≤◌, ◌<◌, ◌-◌, ◌↔◌, ℕ, suc, false, true, refl, map, IsTrue, MatchOption, arith, ap, ◌∙◌, sym, subst}
 use Rattle.std.specs.List.{list_any}
 use Rattle.fancy_meaning.specs.Nodes.{group_count, nodes}
 use Rattle.fancy_meaning.specs.Numbering.{numbered}
@@ -10,7 +10,7 @@ use Rattle.fancy_analysis.specs.AnalysisLimit.{analysis_rounds, whole_of}
 use Rattle.fancy_analysis.specs.Endings.{ending_rounds}
 use Rattle.fancy_analysis.specs.Rounds.{AreRounds, size_rounds}
 use Rattle.std.proofs.lemmas.Result.{IfOk-weaker}
-use Rattle.fancy_analysis.proofs.LimitRounds.{at_least, more_rounds, with_calls, with_names}
+use Rattle.fancy_analysis.proofs.LimitRounds.{rounds_by}
 use Rattle.fancy_analysis.proofs.limit.are_few_rounds.Goals as goal
 
 pub returns-then-not-has_node : goal.returns-then-not-has_node
@@ -22,11 +22,7 @@ returns-then-not-has_node c =
     subst (λ o. MatchOption o (c.args.most < size_rounds whole) (AreRounds whole c.args.most)) c.in-Some.is c.in_ok-rounds.ensures in
     let count : c.in-Some.rounds.count ≡ size_rounds whole = r.count in
     let none : list_any is_call (nodes (tree_of e)) ≡ false = sym (any-nodes is_call e) ∙ sym c.has_node.ensures ∙ c.if-not-has_node.true in
-    let all : analysis_rounds e ≡ size_rounds whole = with_names e c.requires.named none in
-    record {
-      few = λ t. omega (arith, all, count, r.few);
-      over = λ f. absurd (cc);
-    }
+    (λ t. omega (arith, rounds_by e true false c.requires.named none, count, r.few), λ few. refl)
 
 pub are_few_endings-requires-clause-known : goal.are_few_endings-requires-clause-known
 unfolding numbered
@@ -47,13 +43,9 @@ returns-else-not-has_node c =
     subst (λ o. MatchOption o (most < size_rounds whole) (AreRounds whole most)) c.in-Some.is c.in_ok-rounds.ensures in
     let calls : list_any is_call (nodes (tree_of e)) ≡ true = sym (any-nodes is_call e) ∙ sym c.has_node.ensures ∙ c.if-not-has_node.false in
     let endings : ℕ = ending_rounds whole (suc (group_count whole)) in
-    let rounds = more_rounds (analysis_rounds e) (size_rounds whole) endings most count (with_calls e c.requires.named calls) r.count r.few in
-    record {
-      few = IfOk-weaker c.are_few_endings.result (λ few. IsTrue few → endings ≤ most - count) (λ few. IsTrue few → analysis_rounds e ≤ most)
-          (λ few h t. rounds.0 (h t)) c.are_few_endings.ensures.few;
-      over = IfOk-weaker c.are_few_endings.result (λ few. IsFalse few → most - count < endings) (λ few. IsFalse few → most < analysis_rounds e)
-          (λ few h f. rounds.1 (h f)) c.are_few_endings.ensures.over;
-    }
+    let all = rounds_by e true true c.requires.named calls in
+    IfOk-weaker c.are_few_endings.result (λ few. IsTrue few ↔ (endings ≤ most - count)) (λ few. IsTrue few ↔ (analysis_rounds e ≤ most))
+    (λ few h. (λ t. let le = h.0 t in omega (arith, all, le, r.count, r.few), λ le. h.1 (omega (arith, all, le, r.count, r.few)))) c.are_few_endings.ensures
 
 pub returns-in-None : goal.returns-in-None
 unfolding numbered
@@ -62,8 +54,4 @@ returns-in-None c =
     let whole = whole_of e in
     let over : c.args.most < size_rounds whole =
     subst (λ o. MatchOption o (c.args.most < size_rounds whole) (AreRounds whole c.args.most)) c.in-None.is c.in_ok-rounds.ensures in
-    let less : size_rounds whole ≤ analysis_rounds e = at_least e c.requires.named in
-    record {
-      few = λ t. absurd (cc);
-      over = λ f. omega (arith, over, less);
-    }
+    (λ t. absurd (cc), λ le. absurd (omega (arith, over, le, rounds_by e true _ c.requires.named refl)))

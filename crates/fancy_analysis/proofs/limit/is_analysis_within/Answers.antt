@@ -1,15 +1,18 @@
-use Rattle.std.proofs.Common.{◌≡◌, ◌≤◌, ◌<◌, ◌/◌, length, IsTrue, IsFalse, arith, ◌∙◌, sym, subst}
+use Rattle.std.proofs.Common.{◌≡◌, ◌≤◌, ◌<◌, ◌/◌, ◌↔◌, Bool, false, length, IsTrue, IsFalse, ⊎_elim, arith, ◌∙◌, sym, subst}
 use Rattle.fancy_expr.specs.Exprs.{exprs}
 use Rattle.fancy_analysis.specs.AnalysisLimit.{analysis_nodes, analysis_rounds}
+use Rattle.std.proofs.lemmas.Bool.{both_ways, cases_lt}
 use Rattle.std.proofs.lemmas.Result.{IfOk-weaker}
-use Rattle.fancy_analysis.proofs.LimitRounds.{most_rounds, times_none, with_none, count_below, times_over, times_within}
+use Rattle.fancy_analysis.proofs.LimitRounds.{most_rounds, no_call, rounds_by, times_none, count_below, times_over, times_within}
 use Rattle.fancy_analysis.proofs.limit.is_analysis_within.Goals as goal
 
 pub returns-then-not-has_names : goal.returns-then-not-has_names
 returns-then-not-has_names c =
     let e = c.args.tree.now.expr in
     record {
-      within = λ t. times_none (length (exprs e)) (analysis_rounds e) c.args.limit (with_none e (sym c.has_names.ensures ∙ c.if-not-has_names.true));
+      within = λ t.
+          let none = sym c.has_names.ensures ∙ c.if-not-has_names.true in
+          times_none (length (exprs e)) (analysis_rounds e) c.args.limit (rounds_by e false false none (no_call e none));
       over = λ f. absurd (cc);
     }
 
@@ -29,13 +32,15 @@ returns c =
     let some = count_below e in
     let n = length (exprs e) in
     let most : c.rounds_within-most.result ≡ c.args.limit / n = c.rounds_within-most.ensures in
+    let Few : Bool → Type 0 = λ few. IsTrue few ↔ (analysis_rounds e ≤ c.rounds_within-most.result) in
     record {
-      within = IfOk-weaker c.are_few_rounds.result (λ few. IsTrue few → analysis_rounds e ≤ c.rounds_within-most.result)
-          (λ few. IsTrue few → analysis_nodes c.args.tree.now ≤ c.args.limit)
-          (λ few h t. times_within c.args.limit n (analysis_rounds e) (omega arith) (subst (λ k. analysis_rounds e ≤ k) most (h t)))
-          c.are_few_rounds.ensures.few;
-      over = IfOk-weaker c.are_few_rounds.result (λ few. IsFalse few → c.rounds_within-most.result < analysis_rounds e)
-          (λ few. IsFalse few → c.args.limit < analysis_nodes c.args.tree.now)
-          (λ few h f. times_over c.args.limit n (analysis_rounds e) (omega arith) (subst (λ k. k < analysis_rounds e) most (h f)))
-          c.are_few_rounds.ensures.over;
+      within = IfOk-weaker c.are_few_rounds.result Few (λ few. IsTrue few → analysis_nodes c.args.tree.now ≤ c.args.limit)
+          (λ few h t. times_within c.args.limit n (analysis_rounds e) (omega arith) (subst (λ k. analysis_rounds e ≤ k) most (h.0 t)))
+          c.are_few_rounds.ensures;
+      over = IfOk-weaker c.are_few_rounds.result Few (λ few. IsFalse few → c.args.limit < analysis_nodes c.args.tree.now)
+          (λ few h f. ⊎_elim
+          (λ lt. times_over c.args.limit n (analysis_rounds e) (omega arith) (subst (λ k. k < analysis_rounds e) most lt))
+          (λ le. absurd (both_ways few f (h.1 le)))
+          (cases_lt c.rounds_within-most.result (analysis_rounds e)))
+          c.are_few_rounds.ensures;
     }

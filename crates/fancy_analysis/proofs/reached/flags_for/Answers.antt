@@ -1,25 +1,36 @@
-use Rattle.std.proofs.Common.{◌∷◌, [], ◌++◌, false, refl, ap, subst, arith, ◌∙◌, length}
-use Rattle.std.proofs.lemmas.List.{take_all}
-use Rattle.fancy_analysis.specs.declared.links.Link.{Link}
-use Rattle.fancy_analysis.specs.Reached.{HasRoom}
-use Rattle.fancy_analysis.proofs.SearchSteps.{room_none, room_more, same_one}
+use Rattle.std.specs.Ordering.{ord_max, nat_cmp}
+use Rattle.std.proofs.lemmas.Bool.Decides.{nat_tests}
+use Rattle.std.proofs.Common.{◌≡◌, ℕ, max, ◌∷◌, [], ◌++◌, ◌+◌, ◌≤◌, All, false, take, length, ap, subst, arith, ◌∙◌}
+use Rattle.std.proofs.lemmas.List.{take_all, length-replicate, replicate-append-replicate}
+use Rattle.std.proofs.lemmas.List.Elements.{All-more, All-weaker}
+use Rattle.fancy_analysis.specs.Reached.{flag}
+use Rattle.fancy_analysis.proofs.EndingRules.{no_flag}
 use Rattle.fancy_analysis.proofs.reached.flags_for.Goals as goal
 
+greater : (a b : ℕ) → ord_max nat_cmp a b ≡ max a b
+greater a b = grind (arith, nat_tests)
+
 pub loop-link-init : goal.loop-link-init
-loop-link-init c =
-    let one = c.in_ok-push.ensures.items ∙ ap (λ l. l ++ (false ∷ [])) c.new-flags.ensures.items in record {
-      room = room_none c.args.links.now _ (omega (arith, ap length one));
-      clear = same_one _ false one;
-    }
+loop-link-init c = λ k d lt. absurd (omega arith)
 
 pub loop-link-preserved : goal.loop-link-preserved
 loop-link-preserved c =
-    let none : Link = record { from = 0; to = 0; at_once = false } in
-    record {
-      room = room_more c.args.links.now c.loop-link.flags.items c.add_flags.new.flags.items c.loop-link.link-index none _ (omega arith) refl
-          c.add_flags.ensures.more c.in_ok-add_flags.ensures.room c.loop-link.invariant.room;
-      clear = c.add_flags.ensures.clear c.loop-link.invariant.clear;
-    }
+    let links = c.args.links.now in
+    let i = c.loop-link.link-index in
+    let last = c.max-last.result in
+    All-more (λ l. l.from ≤ last) links i (record { from = 0; to = 0; at_once = false }) (omega arith)
+    (All-weaker (λ l. l.from ≤ c.loop-link.last) (λ l. l.from ≤ last)
+    (λ l le. omega (arith, le, c.max-last.ensures ∙ greater c.loop-link.last _)) (take i links) c.loop-link.invariant)
+    (omega (arith, c.max-last.ensures ∙ greater c.loop-link.last _))
 
-pub returns-clause-room : goal.returns-clause-room
-returns-clause-room c = subst (λ l. HasRoom l c.loop-link.flags.items) (take_all c.loop-link.link-index c.args.links.now (omega arith)) c.loop-link.invariant.room
+pub returns : goal.returns
+returns c =
+    let links = c.args.links.now in
+    let last = c.loop-link.last in
+    let all = c.in_ok-push.ensures.items ∙ ap (λ l. l ++ false ∷ []) c.in_ok-flags.ensures ∙ replicate-append-replicate last 1 false in
+    let long = ap length all ∙ length-replicate (last + 1) false in
+    let each = subst (All (λ l. l.from ≤ last)) (take_all c.loop-link.link-index links (omega arith)) c.loop-link.invariant in
+    record {
+      room = record { whole = omega (arith, long); each = λ k d lt. let le = each k d lt in omega (arith, long, le) };
+      clear = λ n. ap (λ l. flag l n) all ∙ no_flag (last + 1) n;
+    }

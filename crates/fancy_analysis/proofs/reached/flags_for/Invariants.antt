@@ -1,9 +1,5 @@
-use Rattle.std.proofs.Common.{◌≡◌, All, false, take}
-use Rattle.fancy_analysis.specs.Reached.{HasRoom}
+use Rattle.std.proofs.Common.{◌≤◌, All, take}
 use Rattle.fancy_analysis.proofs.reached.flags_for.Given as goal
 
 abbrev pub invariant-loop-link : goal.invariant-loop-link
-invariant-loop-link l = record {
-  room : HasRoom (take l.link-index l.links) l.flags.items;
-  clear : All (λ b. b ≡ false) l.flags.items;
-}
+invariant-loop-link l = All (λ link. link.from ≤ l.last) (take l.link-index l.links)

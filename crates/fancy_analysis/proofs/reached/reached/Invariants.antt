@@ -1,5 +1,6 @@
 use Rattle.std.proofs.Common.{◌≡◌, ◌+◌, length}
-use Rattle.fancy_analysis.specs.Reached.{HasRoom, unset_count}
+use Rattle.std.specs.List.{sum_by}
+use Rattle.fancy_analysis.specs.Reached.{HasRoom}
 use Rattle.fancy_analysis.proofs.SearchSteps.{IsReaching}
 use Rattle.fancy_analysis.proofs.reached.reached.Given as goal
 
@@ -11,4 +12,4 @@ invariant-loop-number l = record {
 }
 
 abbrev pub decreases-loop-number : goal.decreases-loop-number
-decreases-loop-number l = unset_count l.flags.items + length l.next.items
+decreases-loop-number l = sum_by (λ v. length v.items) l.ways.items + length l.next.items

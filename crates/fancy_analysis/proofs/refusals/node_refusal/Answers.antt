@@ -1,16 +1,8 @@
-use Rattle.std.proofs.Common.{◌≡◌, sym, ap, ◌∙◌, refl}
+use Rattle.std.proofs.Common.{refl}
 use Rattle.fancy_meaning.specs.AnalysisRefusals.{FeatureNotYetSupported}
-use Rattle.fancy_expr.specs.declared.expr.Absent.TheVariants as code_absent
-use Rattle.fancy_expr.specs.Views.{tree_of, absent_of}
+use Rattle.fancy_expr.proofs.AbsentTests.{absent_same}
 use Rattle.fancy_analysis.specs.Refusals.{refusal_of}
 use Rattle.fancy_analysis.proofs.refusals.node_refusal.Goals as goal
 
 pub returns-in-Absent : goal.returns-in-Absent
-returns-in-Absent c =
-    sym (ap (λ x. refusal_of (tree_of x)) c.in-Absent.is
-    ∙ elim c.in-Absent.field-0 as (λ x. refusal_of (absent_of x) ≡ FeatureNotYetSupported) [
-      | code_absent.Repeater' b y ↦ refl
-      | code_absent.Expression' b y d z ↦ refl
-      | code_absent.Stopper' b y ↦ refl
-      | code_absent.Clear ↦ refl
-    ])
+returns-in-Absent c = absent_same refusal_of FeatureNotYetSupported (λ x. refl) (λ x y. refl) (λ x. refl) refl _ _ c.in-Absent.is

@@ -1,8 +1,9 @@
-use Rattle.std.proofs.Common.{◌<◌, ◌++◌, ◌∷◌, [], false, length, slice_index_or, Contains, refl, sym, ap, ◌∙◌, subst, arith}
+use Rattle.std.proofs.Common.{◌<◌, ◌++◌, ◌∷◌, [], false, true, not, length, slice_index_or, Contains, refl, sym, ap, ◌∙◌, subst, arith}
+use Rattle.std.proofs.lemmas.List.{length-append}
 use Rattle.std.proofs.lemmas.List.Elements.{Contains-push}
 use Rattle.fancy_expr.proofs.Listed.{false_true, true_false}
-use Rattle.fancy_analysis.specs.Reached.{IsState, left_of}
-use Rattle.fancy_analysis.proofs.SearchSteps.{listed_at, listed_within, dropped, entered_on, found, left, left_same, less_path, less_seen, less_ways, moved, stays_set, undone_inside}
+use Rattle.fancy_analysis.specs.Reached.{IsState, unset_count}
+use Rattle.fancy_analysis.proofs.SearchSteps.{listed_at, listed_within, dropped, entered_on, found, left, moved, one_less, stays_set, total_set, undone_inside}
 use Rattle.fancy_analysis.proofs.cycle_search.CycleSearch.step.Goals as goal
 
 pub returns-in_default : goal.returns-in_default
@@ -15,9 +16,7 @@ returns-in_default c = λ links start s path.
       cycle = λ t. absurd (false_true t);
       goes_on = λ f. moved links start refl refl c.set.ensures back
           (left links start old.ways.items old.seen.items old.done.items path.before n n here c.in_default.ensures);
-      less = λ f. left_same {ways = old.ways.items} {seen = old.seen.items} old.ways.items old.seen.items old.path.items refl refl back
-          (subst (λ l. left_of old.ways.items old.seen.items path.before < left_of old.ways.items old.seen.items l) (sym path.is)
-          (less_path old.ways.items old.seen.items path.before n));
+      less = λ f. omega (arith, ap length back, ap length path.is, length-append path.before (n ∷ []));
       seen = λ m at. at;
     }
 
@@ -43,7 +42,7 @@ returns-then-is_done c = λ links start s path.
       cycle = λ t. absurd (false_true t);
       goes_on = λ f. moved links start refl refl refl path.is
           (dropped links start old.ways.items old.seen.items old.done.items path.before n to here list lt is (sym c.is_done.ensures ∙ c.if-is_done.true));
-      less = λ f. less_ways old.ways.items old.seen.items old.path.items n to list lt is;
+      less = λ f. omega (arith, total_set old.ways.items n list lt, ap length is, length-append list.items (to ∷ []));
       seen = λ m at. at;
     }
 
@@ -79,8 +78,9 @@ returns c = λ links start s path.
       cycle = λ t. absurd (false_true t);
       goes_on = λ f. moved links start refl seen refl (on ∙ ap (λ l. l ++ to ∷ []) path.is)
           (entered_on links start old.ways.items old.seen.items old.done.items path.before n to here link within);
-      less = λ f. left_same {ways = old.ways.items} old.ways.items old.seen.items old.path.items refl seen on
-          (less_seen old.ways.items old.seen.items old.path.items to within
-          (sym (c.is_set.ensures ∙ ap (λ l. slice_index_or l to false) c.deref.ensures.value) ∙ c.if-is_set.false));
+      less = λ f.
+          let off = sym (c.is_set.ensures ∙ ap (λ l. slice_index_or l to false) c.deref.ensures.value) ∙ c.if-is_set.false in
+          let one = one_less not old.seen.items to false true within (ap not off) refl in
+          omega (arith, one, ap unset_count seen, ap length on, length-append old.path.items (to ∷ []));
       seen = λ m at. ap (λ l. slice_index_or l m false) seen ∙ stays_set old.seen.items to m within at;
     }
