@@ -8,8 +8,8 @@ use Rattle.fancy_meaning.specs.Code.{Code, Laid, nothing, one, one_at, ◌>>◌}
 use Rattle.fancy_meaning.specs.Constructs.{split}
 use Rattle.fancy_code.specs.Sites.{Site}
 use Rattle.fancy_expr.specs.Views.{bound_of}
-use Rattle.fancy_code.specs.declared.around.Around.{Around}
-use Rattle.fancy_code.specs.declared.around.Around.TheVariants as around
+use Rattle.fancy_code.specs.declared.around.Construct.{Construct}
+use Rattle.fancy_code.specs.declared.around.Construct.TheVariants as around
 use Rattle.fancy_code.specs.declared.loops.LoopKind.TheVariants as kind
 use Rattle.fancy_code.specs.declared.around.Start.{Start}
 use Rattle.fancy_code.specs.Arounds.{IsStart, around_code, opening, open_split, ahead, behind, not_ahead, not_behind}
@@ -53,7 +53,7 @@ module _ (p : Site) (body : Code) (es : List Tree) (s t u : Draft) (at : Start) 
   abbrev base : ℕ
   base = length s.instrs
 
-  abbrev Ended : Around → Draft → Type 0
+  abbrev Ended : Construct → Draft → Type 0
   Ended a v = Writes p (around_code a body) es s v
 
   pub ended_group : (g : ℕ) (v : Draft) → Writes p (opening (around.Group g)) [] s t → Writes p body es t u

@@ -6,8 +6,8 @@ use Rattle.fancy_meaning.specs.Code.{Code, nothing, one, ◌>>◌}
 use Rattle.fancy_meaning.specs.Constructs.{LoopForm, Never, AtMostOnce, Epsilon, Star, Plus, Counted, group_code, atomic_code, look_code, negative_look_code, repeat_code}
 use Rattle.fancy_code.specs.Sites.{Site}
 use Rattle.fancy_expr.specs.Views.{bound_of}
-use Rattle.fancy_code.specs.declared.around.Around.{Around}
-use Rattle.fancy_code.specs.declared.around.Around.TheVariants as around
+use Rattle.fancy_code.specs.declared.around.Construct.{Construct}
+use Rattle.fancy_code.specs.declared.around.Construct.TheVariants as around
 use Rattle.fancy_code.specs.declared.looks.LookKind.{LookKind}
 use Rattle.fancy_code.specs.declared.looks.LookKind.TheVariants as look
 use Rattle.fancy_code.specs.declared.loops.LoopKind.{LoopKind}
@@ -33,22 +33,22 @@ look_over (look.Behind n) body = look_code (one (Instr.GoBack n) >> body)
 look_over (look.NotBehind n) body = negative_look_code (one (Instr.GoBack n) >> body)
 
 -- with the body's code
-abbrev pub around_code : Around → Code → Code
+abbrev pub around_code : Construct → Code → Code
 around_code (around.Group g) body = group_code g body
 around_code around.Atomic body = atomic_code body
 around_code (around.Look k) body = look_over k body
 around_code (around.Loop k greedy) body = repeat_code greedy body (kind_form k)
 
-abbrev pub ahead : Around
+abbrev pub ahead : Construct
 ahead = around.Look look.Ahead
 
-abbrev pub not_ahead : Around
+abbrev pub not_ahead : Construct
 not_ahead = around.Look look.NotAhead
 
-abbrev pub behind : ℕ → Around
+abbrev pub behind : ℕ → Construct
 behind n = around.Look (look.Behind n)
 
-abbrev pub not_behind : ℕ → Around
+abbrev pub not_behind : ℕ → Construct
 not_behind n = around.Look (look.NotBehind n)
 
 -- so many characters back, there is the body, or there is not
@@ -77,7 +77,7 @@ look_opening look.NotAhead = one open_split
 look_opening (look.Behind n) = over_slot Instr.Save >> one (Instr.GoBack n)
 look_opening (look.NotBehind n) = one open_split >> one (Instr.GoBack n)
 
-abbrev pub opening : Around → Code
+abbrev pub opening : Construct → Code
 opening (around.Group g) = over_slot (Instr.SaveCaptureGroupStart g)
 opening around.Atomic = one Instr.BeginAtomic
 opening (around.Look k) = look_opening k
@@ -91,7 +91,7 @@ pub record IsStart (at : Start) (s : Draft) : Type 0 where
   pub fresh : at.fresh ≡ s.fresh
 
 -- whatever body was written behind the opening, the construct is whole
-abbrev pub Ends : Around → Start → Draft → Draft → Type 0
+abbrev pub Ends : Construct → Start → Draft → Draft → Type 0
 Ends a at u v =
     (p : Site) (body : Code) (es : List Tree) (s t : Draft)
     → IsStart at s

@@ -9,7 +9,7 @@ use fancy_program::insn::Insn;
 
 /// What stands around a node.
 #[derive(Clone, Copy)]
-pub enum Around {
+pub enum Construct {
     Group(usize),
     Atomic,
     Look(LookKind),
@@ -41,27 +41,27 @@ impl CodeWriter {
     }
 
     /// What stands before a node.
-    pub fn begin(&mut self, around: Around)
+    pub fn begin(&mut self, around: Construct)
         ensures { (p : Site)
             → Writes p (opening around) [] (draft_of self.old) (draft_of self.new) }
     {
         match around {
-            Around::Group(group) => self.begin_group(group),
-            Around::Atomic => self.push(Insn::BeginAtomic),
-            Around::Look(kind) => self.begin_look(kind),
-            Around::Loop { kind, .. } => self.begin_loop(kind),
+            Construct::Group(group) => self.begin_group(group),
+            Construct::Atomic => self.push(Insn::BeginAtomic),
+            Construct::Look(kind) => self.begin_look(kind),
+            Construct::Loop { kind, .. } => self.begin_loop(kind),
         }
     }
 
     /// What stands behind a node, before which `begin` wrote at `start`.
-    pub fn end(&mut self, around: Around, start: Start)
+    pub fn end(&mut self, around: Construct, start: Start)
         ensures { Ends around start (draft_of self.old) (draft_of self.new) }
     {
         match around {
-            Around::Group(group) => self.end_group(group, start),
-            Around::Atomic => self.push(Insn::EndAtomic),
-            Around::Look(kind) => self.end_look(kind, start),
-            Around::Loop { kind, greedy } => self.end_loop(kind, greedy, start),
+            Construct::Group(group) => self.end_group(group, start),
+            Construct::Atomic => self.push(Insn::EndAtomic),
+            Construct::Look(kind) => self.end_look(kind, start),
+            Construct::Loop { kind, greedy } => self.end_loop(kind, greedy, start),
         }
     }
 }

@@ -1,6 +1,6 @@
 //! Groups that are captured: where one begins, and where it ends.
 
-ghost use Rattle.fancy_code.specs.declared.around.Around.TheVariants as around;
+ghost use Rattle.fancy_code.specs.declared.around.Construct.TheVariants as around;
 ghost use Rattle.std.specs.Prelude.{[]};
 ghost use Rattle.fancy_meaning.specs.Instr.{Instr};
 ghost use Rattle.fancy_code.specs.Sites.{Site};

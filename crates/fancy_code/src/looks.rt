@@ -1,6 +1,6 @@
 //! Look-arounds: how each begins and ends.
 
-ghost use Rattle.fancy_code.specs.declared.around.Around.TheVariants as around;
+ghost use Rattle.fancy_code.specs.declared.around.Construct.TheVariants as around;
 ghost use Rattle.fancy_code.specs.Arounds.{Ends, look_opening, not_ahead, not_behind};
 ghost use Rattle.fancy_code.specs.Drafts.{Writes, draft_of};
 ghost use Rattle.fancy_code.specs.Sites.{Site};

@@ -1,6 +1,6 @@
 //! Loops: how each begins and ends.
 
-ghost use Rattle.fancy_code.specs.declared.around.Around.TheVariants as around;
+ghost use Rattle.fancy_code.specs.declared.around.Construct.TheVariants as around;
 ghost use Rattle.fancy_code.specs.declared.loops.LoopKind.TheVariants as kind;
 ghost use Rattle.fancy_code.specs.Arounds.{Ends, loop_opening};
 ghost use Rattle.fancy_code.specs.Drafts.{Writes, draft_of};

@@ -1,7 +1,7 @@
 pub mod EachLaws
 pub mod Known
 pub mod AnyBelow
-pub mod SoughtNodesLaws
+pub mod NodeKindsLaws
 pub mod GroupTable
 pub mod Infos
 pub mod Slices

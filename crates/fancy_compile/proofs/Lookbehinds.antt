@@ -17,7 +17,7 @@ use Rattle.fancy_info.specs.declared.info.Info.TheViews.{out-Info}
 use Rattle.fancy_info.specs.Infos.{node_over, absent_over, info_tree, info_size, info_within, info_children, info_facts, IsAnalysed}
 use Rattle.fancy_expr.specs.Each.{Each}
 use Rattle.fancy_info.proofs.Unfolded.{tree_out}
-use Rattle.fancy_code.specs.declared.around.Around.TheVariants as around
+use Rattle.fancy_code.specs.declared.around.Construct.TheVariants as around
 use Rattle.fancy_code.specs.Arounds.{around_code, behind, behind_kind, not_behind}
 use Rattle.fancy_code.specs.Faults.{Rejects, refused, out_of_range, refused_as, HasRejected}
 use Rattle.fancy_code.specs.Drafts.{Draft, Writes, written_code, node_code}

@@ -1,5 +1,5 @@
 pub mod AnalysedNodes
-pub mod SoughtNodes
+pub mod NodeKinds
 pub mod GroupTables
 pub mod OpenDepths
 pub mod Nodes

@@ -7,7 +7,7 @@ ghost use Rattle.std.specs.Prelude.{false, ◌≡◌};
 
 use crate::below::is_refused_body;
 use crate::scope::Scope;
-use fancy_code::around::Around;
+use fancy_code::around::Construct;
 use fancy_code::looks::LookKind;
 use fancy_code::loops::LoopKind;
 use fancy_code::writer::CodeWriter;
@@ -41,7 +41,7 @@ impl<'t, 'i, 'a, 'o> Scope<'t, 'i, 'a, 'o> {
             writer.refuse(CompileError::FeatureNotYetSupported);
             return;
         }
-        let rounds = Around::Loop {
+        let rounds = Construct::Loop {
             kind: LoopKind::Epsilon { lo: 0 },
             greedy: true,
         };
@@ -74,7 +74,13 @@ impl<'t, 'i, 'a, 'o> Scope<'t, 'i, 'a, 'o> {
         writer.push(Insn::BeginAtomic);
         let split = writer.code.len();
         writer.push(Insn::Split(split + 1, 0));
-        self.emit_around(writer, Around::Look(LookKind::NotAhead), body, false, false);
+        self.emit_around(
+            writer,
+            Construct::Look(LookKind::NotAhead),
+            body,
+            false,
+            false,
+        );
         writer.push(Insn::EndAtomic);
         writer.push(Insn::Any);
         let jump = writer.code.len();

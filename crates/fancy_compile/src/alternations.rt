@@ -6,7 +6,7 @@ ghost use Rattle.fancy_compile.specs.Nodes.{AreWhole, IsWhole, WritesBranches, W
 ghost use Rattle.std.specs.Prelude.{false, length, ◌≡◌};
 
 use crate::scope::Scope;
-use fancy_code::around::Around;
+use fancy_code::around::Construct;
 use fancy_code::looks::LookKind;
 use fancy_code::writer::CodeWriter;
 use fancy_expr::error::Error;
@@ -72,7 +72,7 @@ impl<'t, 'i, 'a, 'o> Scope<'t, 'i, 'a, 'o> {
         if behind {
             self.emit_around(
                 writer,
-                Around::Look(LookKind::Behind(info.min_size())),
+                Construct::Look(LookKind::Behind(info.min_size())),
                 info,
                 false,
                 in_hard,

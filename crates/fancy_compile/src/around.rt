@@ -5,7 +5,7 @@ ghost use Rattle.fancy_code.specs.Drafts.{draft_of};
 ghost use Rattle.fancy_compile.specs.Nodes.{IsWhole, WritesOver};
 
 use crate::scope::Scope;
-use fancy_code::around::Around;
+use fancy_code::around::Construct;
 use fancy_code::writer::CodeWriter;
 use fancy_info::info::Info;
 
@@ -15,7 +15,7 @@ impl<'t, 'i, 'a, 'o> Scope<'t, 'i, 'a, 'o> {
     pub fn emit_around(
         &self,
         writer: &mut CodeWriter,
-        around: Around,
+        around: Construct,
         body: &Info,
         at_start: bool,
         in_hard: bool,

@@ -2,7 +2,7 @@
 
 ghost use Rattle.fancy_info.specs.Infos.{info_hard, info_tree};
 ghost use Rattle.fancy_compile.specs.AnalysedNodes.{IsKnown};
-ghost use Rattle.fancy_compile.specs.SoughtNodes.{is_sought, is_sought_expr};
+ghost use Rattle.fancy_compile.specs.NodeKinds.{is_of_kind, is_of_kind_expr};
 ghost use Rattle.fancy_meaning.specs.Nodes.{is_absent, nodes};
 ghost use Rattle.fancy_meaning.specs.Options.{Analysis};
 ghost use Rattle.std.specs.List.{list_any};
@@ -13,7 +13,7 @@ use fancy_info::info::Info;
 
 /// A kind of node that is looked for.
 #[derive(Clone, Copy)]
-pub enum Sought {
+pub enum NodeKind {
     /// An absent operator.
     AbsentNode,
     /// A `\K`.
@@ -21,26 +21,26 @@ pub enum Sought {
 }
 
 /// The expression is of this kind.
-fn is_sought(sought: Sought, expr: &Expr) -> bool
-    ensures { result ≡ is_sought_expr sought expr.now }
+fn is_of_kind(kind: NodeKind, expr: &Expr) -> bool
+    ensures { result ≡ is_of_kind_expr kind expr.now }
 {
-    match sought {
-        Sought::AbsentNode => matches!(expr, Expr::Absent(_)),
-        Sought::KeepOutNode => matches!(expr, Expr::KeepOut),
+    match kind {
+        NodeKind::AbsentNode => matches!(expr, Expr::Absent(_)),
+        NodeKind::KeepOutNode => matches!(expr, Expr::KeepOut),
     }
 }
 
 /// The node, or one below it, is of this kind.
-pub fn has_sought(sought: Sought, info: &Info) -> bool
+pub fn has_kind(kind: NodeKind, info: &Info) -> bool
     requires { (a : Analysis) × IsKnown a info.now }
-    ensures { result ≡ list_any (is_sought sought) (nodes (info_tree info.now)) }
+    ensures { result ≡ list_any (is_of_kind kind) (nodes (info_tree info.now)) }
 {
-    if is_sought(sought, info.expr()) {
+    if is_of_kind(kind, info.expr()) {
         return true;
     }
     let children = info.children();
     for child in children {
-        if has_sought(sought, child) {
+        if has_kind(kind, child) {
             return true;
         }
     }
@@ -52,5 +52,5 @@ pub fn is_refused_body(body: &Info) -> bool
     requires { (a : Analysis) × IsKnown a body.now }
     ensures { result ≡ (info_hard body.now && list_any is_absent (nodes (info_tree body.now))) }
 {
-    body.hard() && has_sought(Sought::AbsentNode, body)
+    body.hard() && has_kind(NodeKind::AbsentNode, body)
 }

@@ -12,7 +12,7 @@ ghost use Rattle.fancy_compile.specs.Nodes.{IsScope, IsScopeOf};
 ghost use Rattle.fancy_info.specs.Infos.{IsRoot};
 ghost use Rattle.fancy_code.specs.Sites.{Site, top};
 
-use crate::below::{Sought, has_sought};
+use crate::below::{NodeKind, has_kind};
 use crate::group_table::GroupTable;
 pub use crate::options::{BytesMode, CompileOptions};
 use crate::scope::Scope;
@@ -153,7 +153,7 @@ fn finish(writer: CodeWriter, info: &Info, options: CompileOptions) -> Result<Pr
         explicit_group_0: info.explicit_capture_group_0(),
         find_not_empty: info.find_not_empty(),
         leftmost_longest: info.leftmost_longest(),
-        keeps_start: has_sought(Sought::KeepOutNode, info),
+        keeps_start: has_kind(NodeKind::KeepOutNode, info),
         end_text: options.disallow_empty_match_at_eof_after_newline,
         unicode: options.unicode,
     };

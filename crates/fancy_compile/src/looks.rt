@@ -8,7 +8,7 @@ ghost use Rattle.std.specs.Prelude.{◌≡◌};
 
 use crate::look_behinds::has_const_branches;
 use crate::scope::Scope;
-use fancy_code::around::Around;
+use fancy_code::around::Construct;
 use fancy_code::looks::LookKind;
 use fancy_code::writer::CodeWriter;
 use fancy_expr::error::{CompileError, Error};
@@ -37,14 +37,14 @@ impl<'t, 'i, 'a, 'o> Scope<'t, 'i, 'a, 'o> {
         match look {
             LookAround::LookAhead => self.emit_around(
                 writer,
-                Around::Look(LookKind::Ahead),
+                Construct::Look(LookKind::Ahead),
                 body,
                 false,
                 false,
             ),
             LookAround::LookAheadNeg => self.emit_around(
                 writer,
-                Around::Look(LookKind::NotAhead),
+                Construct::Look(LookKind::NotAhead),
                 body,
                 false,
                 false,
@@ -63,7 +63,7 @@ impl<'t, 'i, 'a, 'o> Scope<'t, 'i, 'a, 'o> {
     {
         if body.const_size() {
             let kind = behind_kind(negative, body.min_size());
-            self.emit_around(writer, Around::Look(kind), body, false, false);
+            self.emit_around(writer, Construct::Look(kind), body, false, false);
             return;
         }
         if !has_const_branches(body) {
@@ -91,7 +91,7 @@ impl<'t, 'i, 'a, 'o> Scope<'t, 'i, 'a, 'o> {
         for info in infos {
             self.emit_around(
                 writer,
-                Around::Look(LookKind::NotBehind(info.min_size())),
+                Construct::Look(LookKind::NotBehind(info.min_size())),
                 info,
                 false,
                 false,

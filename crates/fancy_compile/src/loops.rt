@@ -9,7 +9,7 @@ ghost use Rattle.fancy_meaning.specs.Layout.{is_at_most_once};
 ghost use Rattle.std.specs.Prelude.{not, ◌||◌, ◌≡◌};
 
 use crate::scope::Scope;
-use fancy_code::around::Around;
+use fancy_code::around::Construct;
 use fancy_code::loops::LoopKind;
 use fancy_code::writer::CodeWriter;
 use fancy_info::info::Info;
@@ -72,7 +72,7 @@ impl<'t, 'i, 'a, 'o> Scope<'t, 'i, 'a, 'o> {
         match loop_kind(lo, hi, body.min_size() == 0) {
             Some(kind) => self.emit_around(
                 writer,
-                Around::Loop { kind, greedy },
+                Construct::Loop { kind, greedy },
                 body,
                 false,
                 is_body_hard(kind, in_hard),

@@ -6,7 +6,7 @@ ghost use Rattle.fancy_compile.specs.Nodes.{IsWhole, WritesNode, WritesOut};
 use crate::absents::is_repeater;
 use crate::analysed_nodes::{child, is_batch, is_body_hard};
 use crate::scope::Scope;
-use fancy_code::around::Around;
+use fancy_code::around::Construct;
 use fancy_code::writer::CodeWriter;
 use fancy_expr::error::{CompileError, Error};
 use fancy_expr::expr::Expr;
@@ -48,12 +48,12 @@ impl<'t, 'i, 'a, 'o> Scope<'t, 'i, 'a, 'o> {
             Expr::Concat(_) => self.emit_concat(writer, info.children(), at_start, in_hard),
             Expr::Alt(_) => self.emit_branches(writer, info.children(), false, in_hard),
             Expr::Group(_) => {
-                let around = Around::Group(info.start_group());
+                let around = Construct::Group(info.start_group());
                 let is_hard = is_body_hard(info, in_hard);
                 self.emit_around(writer, around, child(info, 0), at_start, is_hard)
             }
             Expr::AtomicGroup(_) => {
-                self.emit_around(writer, Around::Atomic, child(info, 0), false, false)
+                self.emit_around(writer, Construct::Atomic, child(info, 0), false, false)
             }
             Expr::Repeat { lo, hi, greedy, .. } => {
                 self.emit_repeat(writer, *lo, *hi, *greedy, child(info, 0), in_hard)

@@ -9,7 +9,7 @@ use std::alloc::{AllocError, Global};
 
 /// What a node stands in.
 #[derive(Clone, Copy, PartialEq, Eq)]
-pub enum Around {
+pub enum Parent {
     Nothing,
     /// Behind another node of the same sequence.
     Sequence,
@@ -26,11 +26,11 @@ pub struct Builder<'n> {
 }
 
 /// What a child of the node stands in.
-fn around_part(expr: &Expr, i: usize) -> Around {
+fn parent_of_part(expr: &Expr, i: usize) -> Parent {
     match expr {
-        Expr::Concat(_) if i > 0 => Around::Sequence,
-        Expr::AtomicGroup(_) => Around::Atomic,
-        _ => Around::Nothing,
+        Expr::Concat(_) if i > 0 => Parent::Sequence,
+        Expr::AtomicGroup(_) => Parent::Atomic,
+        _ => Parent::Nothing,
     }
 }
 
@@ -92,11 +92,11 @@ impl Builder<'_> {
     }
 
     /// The figure of a node without children.
-    fn push_leaf(&mut self, expr: &Expr, around: Around) -> Result<(), AllocError> {
+    fn push_leaf(&mut self, expr: &Expr, parent: Parent) -> Result<(), AllocError> {
         let mut label = String::new(self.alloc);
         push_words(&mut label, expr, self.names)?;
         let shape = leaf_shape(expr);
-        let may_join = around == Around::Sequence && matches!(shape, Shape::Text { .. });
+        let may_join = parent == Parent::Sequence && matches!(shape, Shape::Text { .. });
         if may_join && self.join(shape, label.as_str())? {
             self.resize();
             return Ok(());
@@ -110,7 +110,7 @@ impl Builder<'_> {
         &mut self,
         (lo, hi): (usize, usize),
         greedy: bool,
-        around: Around,
+        parent: Parent,
         begin: usize,
     ) -> Result<(), AllocError> {
         let mut label = String::new(self.alloc);
@@ -118,7 +118,7 @@ impl Builder<'_> {
             &mut label,
             (lo, hi),
             greedy,
-            around == Around::Atomic && greedy,
+            parent == Parent::Atomic && greedy,
         )?;
         let shape = Shape::Loop {
             is_optional: lo == 0,
@@ -147,7 +147,7 @@ impl Builder<'_> {
         &mut self,
         expr: &Expr,
         number: usize,
-        around: Around,
+        parent: Parent,
         begin: usize,
     ) -> Result<(), AllocError> {
         match expr {
@@ -155,7 +155,7 @@ impl Builder<'_> {
             Expr::Alt(_) | Expr::Conditional { .. } => self.push_bare(Shape::Choice, begin),
             Expr::Group(_) => self.push_group(number, begin),
             Expr::Repeat { lo, hi, greedy, .. } => {
-                self.push_loop((*lo, *hi), *greedy, around, begin)
+                self.push_loop((*lo, *hi), *greedy, parent, begin)
             }
             _ if is_possessive_loop(expr) => Ok(()),
             _ => self.push_frame(expr, begin),
@@ -199,19 +199,19 @@ impl Builder<'_> {
     }
 
     /// Adds the figures of the node and of those below it.
-    pub fn add(&mut self, expr: &Expr, around: Around) -> Result<(), AllocError> {
+    pub fn add(&mut self, expr: &Expr, parent: Parent) -> Result<(), AllocError> {
         let count = part_count(expr);
         if count == 0 {
-            return self.push_leaf(expr, around);
+            return self.push_leaf(expr, parent);
         }
         let number = self.open(expr);
         let begin = self.figures.len();
         for i in 0..count {
             let own = self.figures.len();
             self.open_part(expr, i)?;
-            self.add(part(expr, i), around_part(expr, i))?;
+            self.add(part(expr, i), parent_of_part(expr, i))?;
             self.close_part(expr, i, begin, own)?;
         }
-        self.close(expr, number, around, begin)
+        self.close(expr, number, parent, begin)
     }
 }

@@ -4,7 +4,7 @@ ghost use Rattle.std.specs.Prelude.{◌≡◌, ◌≤◌, MatchResult};
 ghost use Rattle.fancy_railroad.specs.Drawing.{IsRefusedFor, most_nodes, node_count};
 ghost use Rattle.fancy_railroad.specs.declared.draw.DrawError.TheVariants.{Memory};
 
-use crate::builder::{Around, Builder};
+use crate::builder::{Builder, Parent};
 use crate::count::count_nodes;
 use crate::figures::{Figure, Size, box_width};
 use crate::names::GroupNames;
@@ -123,7 +123,7 @@ fn figures_of(alloc: Global, expr: &Expr, names: &GroupNames) -> Result<Vec<Figu
         group: 1,
         names,
     };
-    builder.add(expr, Around::Nothing)?;
+    builder.add(expr, Parent::Nothing)?;
     Ok(builder.figures)
 }
 

@@ -12,12 +12,12 @@ use Rattle.fancy_matches.specs.declared.found.Captures.{Captures}
 use Rattle.fancy_starts.specs.Matches.{Found, match_of}
 use Rattle.fancy_starts.proofs.Matches.{answer_is, no_answer_later, numbers_begin, numbers_of, same_answer_later}
 use Rattle.fancy_scanner.specs.Kept.{answer_start, start_of}
-use Rattle.fancy_scanner.specs.Lasting.{MatchesLast, NoMatchLasts, holds_at, is_anchored, lasts_to}
-use Rattle.fancy_scanner.specs.Scanning.{IsLastingFor, Rule, answer_from}
+use Rattle.fancy_scanner.specs.Reuse.{MatchesLast, NoMatchLasts, holds_at, is_anchored, lasts_to}
+use Rattle.fancy_scanner.specs.Scanning.{IsReuseFor, Rule, answer_from}
 use Rattle.fancy_scanner.specs.Scans.{IsAnswerOf}
 use Rattle.fancy_scanner.specs.declared.answers.Answer.{Answer}
-use Rattle.fancy_scanner.specs.declared.lasting.Lasting.{Lasting}
-use Rattle.fancy_scanner.specs.declared.lasting.Lasting.TheVariants as lasts
+use Rattle.fancy_scanner.specs.declared.reuse.Reuse.{Reuse}
+use Rattle.fancy_scanner.specs.declared.reuse.Reuse.TheVariants as lasts
 
 -- where a match by these numbers begins
 abbrev first_number : List ℕ → ℕ
@@ -61,25 +61,25 @@ module _ (text : List ℕ) (r : Rule) (from pos : ℕ) where
         h.no_keep_out f.first f.rest (omega (arith, at, start)) now
         ∙ sym now
 
-    lasts_so : (lasting : Lasting) → IsLastingFor r lasting → (a : Option (List ℕ)) → answer_from text from r ≡ a →
-        lasts_to lasting (option_map first_number a) pos ≡ true → answer_from text pos r ≡ answer_from text from r
+    lasts_so : (reuse : Reuse) → IsReuseFor r reuse → (a : Option (List ℕ)) → answer_from text from r ≡ a →
+        lasts_to reuse (option_map first_number a) pos ≡ true → answer_from text pos r ≡ answer_from text from r
     lasts_so lasts.Nothing h a e to = absurd (true≢false (sym to))
     lasts_so lasts.NoMatch h None e to = none_lasts h e ∙ sym e
     lasts_so lasts.NoMatch h (Some numbers) e to = absurd (true≢false (sym to))
     lasts_so lasts.Matches h None e to = none_lasts h.no_match e ∙ sym e
     lasts_so lasts.Matches h (Some numbers) e to = match_lasts h numbers e (leb-true pos (first_number numbers) to)
 
-  pub holds_so : (lasting : Lasting) (start : Option ℕ) → IsLastingFor r lasting → start ≡ option_map first_number (answer_from text from r) →
-      holds_at lasting from start pos ≡ true → answer_from text pos r ≡ answer_from text from r
-  holds_so lasting start h is holds = go (from == pos) refl holds
+  pub holds_so : (reuse : Reuse) (start : Option ℕ) → IsReuseFor r reuse → start ≡ option_map first_number (answer_from text from r) →
+      holds_at reuse from start pos ≡ true → answer_from text pos r ≡ answer_from text from r
+  holds_so reuse start h is holds = go (from == pos) refl holds
     where
-      go : (b : Bool) → (from == pos) ≡ b → (b || (nat_lt from pos && lasts_to lasting start pos)) ≡ true →
+      go : (b : Bool) → (from == pos) ≡ b → (b || (nat_lt from pos && lasts_to reuse start pos)) ≡ true →
           answer_from text pos r ≡ answer_from text from r
       go true here to = ap (λ i. answer_from text i r) (sym (eqb-true from pos here))
       go false there to =
-          let both = and_parts (nat_lt from pos) (lasts_to lasting start pos) to in
-          lasts_so (ltb-true from pos both.0) lasting h (answer_from text from r) refl
-          (ap (λ s. lasts_to lasting s pos) (sym is) ∙ both.1)
+          let both = and_parts (nat_lt from pos) (lasts_to reuse start pos) to in
+          lasts_so (ltb-true from pos both.0) reuse h (answer_from text from r) refl
+          (ap (λ s. lasts_to reuse s pos) (sym is) ∙ both.1)
 
 -- ---- what is kept
 
@@ -90,11 +90,11 @@ starts_same text None (Some numbers) e = absurd (none-some _ e)
 starts_same text (Some c) None e = absurd (none-some _ (sym e))
 starts_same text (Some c) (Some numbers) e = ap (λ (p : List ℕ × List ℕ). Some (first_number p.1)) (same_Some _ _ e)
 
-pub kept_holds : (text : List ℕ) (r : Rule) (a : Answer) (lasting : Lasting) (pos : ℕ) → IsAnswerOf text r a → IsLastingFor r lasting →
-    holds_at lasting a.from (answer_start a) pos ≡ true → FindsCaptures r.input text (begun_at r.options pos) (Ok a.found)
-kept_holds text r a lasting pos h last holds = (
+pub kept_holds : (text : List ℕ) (r : Rule) (a : Answer) (reuse : Reuse) (pos : ℕ) → IsAnswerOf text r a → IsReuseFor r reuse →
+    holds_at reuse a.from (answer_start a) pos ≡ true → FindsCaptures r.input text (begun_at r.options pos) (Ok a.found)
+kept_holds text r a reuse pos h last holds = (
   h.0,
   h.1
       ∙ ap (option_map (with_numbers text))
-      (sym (holds_so text r a.from pos lasting (answer_start a) last (starts_same text a.found (answer_from text a.from r) h.1) holds)),
+      (sym (holds_so text r a.from pos reuse (answer_start a) last (starts_same text a.found (answer_from text a.from r) h.1) holds)),
 )

@@ -8,15 +8,15 @@ use Rattle.std.proofs.lemmas.Option.{none-some, same_Some}
 use Rattle.fancy_matches.specs.Listing.{begun_at}
 use Rattle.fancy_matches.specs.Matchers.{FindsCaptures}
 use Rattle.fancy_scanner.specs.Kept.{answer_start, found_in, kept_captures}
-use Rattle.fancy_scanner.specs.Lasting.{holds_at}
-use Rattle.fancy_scanner.specs.Scanning.{IsRuleAt, IsScannerOf, KeepsTrees, Rule, lasting_at, trees_of}
+use Rattle.fancy_scanner.specs.Reuse.{holds_at}
+use Rattle.fancy_scanner.specs.Scanning.{IsRuleAt, IsScannerOf, KeepsTrees, Rule, reuse_at, trees_of}
 use Rattle.fancy_scanner.specs.Scans.{AreAnswersOf, GoesOn, HasRoom, KeepsLoans, IsAnswerOf, IsScanOf, KeepsHeld, answers_of, holds_for, is_held, text_of}
 use Rattle.fancy_scanner.specs.declared.answers.Answer.{Answer}
-use Rattle.fancy_scanner.specs.declared.lasting.Lasting.{Lasting}
+use Rattle.fancy_scanner.specs.declared.reuse.Reuse.{Reuse}
 use Rattle.fancy_scanner.specs.declared.scan_text.TreeScan.{TreeScan}
 use Rattle.fancy_scanner.proofs.Holding.{kept_holds}
 use Rattle.fancy_scanner.proofs.Reading.{get_other}
-use Rattle.fancy_scanner.proofs.Rules.{keeps_itself, keeps_twice, lasting_of, same_rule}
+use Rattle.fancy_scanner.proofs.Rules.{keeps_itself, keeps_twice, reuse_of, same_rule}
 
 -- ---- a list of answers
 
@@ -69,20 +69,20 @@ module _ (text : List ℕ) where
 
 -- what is kept of a tree and holds here
 pub record Held (s : TreeScan) (k pos : ℕ) : Type 0 where
-  pub lasting : Lasting
+  pub reuse : Reuse
   pub answer : Answer
-  pub lasts : lasting_at s.scanner.now k ≡ Some lasting
+  pub lasts : reuse_at s.scanner.now k ≡ Some reuse
   pub kept : slice_get (answers_of s) k ≡ Some (Some answer)
-  pub holds : holds_at lasting answer.from (answer_start answer) pos ≡ true
+  pub holds : holds_at reuse answer.from (answer_start answer) pos ≡ true
 
 pub held : (s : TreeScan) (k pos : ℕ) → is_held s k pos ≡ true → Held s k pos
-held s k pos e = go (lasting_at s.scanner.now k) (slice_get (answers_of s) k) refl refl e
+held s k pos e = go (reuse_at s.scanner.now k) (slice_get (answers_of s) k) refl refl e
   where
-    go : (l : Option Lasting) (a : Option (Option Answer)) → lasting_at s.scanner.now k ≡ l → slice_get (answers_of s) k ≡ a →
+    go : (l : Option Reuse) (a : Option (Option Answer)) → reuse_at s.scanner.now k ≡ l → slice_get (answers_of s) k ≡ a →
         holds_for l a pos ≡ true → Held s k pos
-    go (Some lasting) (Some (Some a)) lasts kept h = record { lasting = lasting; answer = a; lasts = lasts; kept = kept; holds = h }
-    go (Some lasting) (Some None) lasts kept h = absurd (true≢false (sym h))
-    go (Some lasting) None lasts kept h = absurd (true≢false (sym h))
+    go (Some reuse) (Some (Some a)) lasts kept h = record { reuse = reuse; answer = a; lasts = lasts; kept = kept; holds = h }
+    go (Some reuse) (Some None) lasts kept h = absurd (true≢false (sym h))
+    go (Some reuse) None lasts kept h = absurd (true≢false (sym h))
     go None (Some (Some a)) lasts kept h = absurd (true≢false (sym h))
     go None (Some None) lasts kept h = absurd (true≢false (sym h))
     go None None lasts kept h = absurd (true≢false (sym h))
@@ -93,14 +93,14 @@ pub held_answers : (s : TreeScan) (k pos : ℕ) → is_held s k pos ≡ true →
 held_answers s k pos e rules r h at =
     let now = held s k pos e in
     subst (λ found. FindsCaptures r.input (text_of s) (begun_at r.options pos) (Ok found)) (sym (ap (option_and_then found_in) now.kept))
-    (kept_holds (text_of s) r now.answer now.lasting pos (answer_at (text_of s) rules (answers_of s) k r now.answer h.answers at now.kept)
-    (lasting_of (text_of s) rules (trees_of s.scanner.now) k r now.lasting h.scanner at now.lasts) now.holds)
+    (kept_holds (text_of s) r now.answer now.reuse pos (answer_at (text_of s) rules (answers_of s) k r now.answer h.answers at now.kept)
+    (reuse_of (text_of s) rules (trees_of s.scanner.now) k r now.reuse h.scanner at now.lasts) now.holds)
 
 -- so it still is where the scan has the same trees and keeps what was held
 pub held_still : (s t u : TreeScan) (pos : ℕ) → KeepsTrees s.scanner.now t.scanner.now → KeepsHeld pos s t → KeepsHeld pos t u → KeepsHeld pos s u
 held_still s t u pos trees h g = λ k e.
     let same = h k e in
-    g k (ap₂ (λ l a. holds_for l a pos) (trees.lasting k) same ∙ e) ∙ same
+    g k (ap₂ (λ l a. holds_for l a pos) (trees.reuse k) same ∙ e) ∙ same
 
 -- so it is where the answer of a tree is put that was not held
 pub put_held : (s : TreeScan) (index pos : ℕ) (y : Option Answer) → is_held s index pos ≡ false → (k : ℕ) → is_held s k pos ≡ true →

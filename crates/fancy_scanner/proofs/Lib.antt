@@ -1,7 +1,7 @@
 pub mod Reading
 pub mod Passed
 pub mod Rules
-pub mod SoughtNodes
+pub mod NodeKinds
 pub mod Holding
 pub mod Kept
 pub mod Steps

@@ -14,7 +14,7 @@ use Rattle.fancy_scanner.specs.Scanning.{AreTreesOf, EachReplies, FailsForOne, I
 use Rattle.fancy_scanner.specs.Limits.{AreDistinct, passed_among, passed_at}
 use Rattle.fancy_scanner.specs.Scans.{AreAnswersOf, GoesOn, HasRoom, IsScanOf, IsWholeIn, KeepsHeld, KeepsOthers, answers_of, captures_result, earlier_match, found_match, holds_for, is_held, text_of}
 use Rattle.fancy_scanner.specs.declared.answers.Answer.{Answer}
-use Rattle.fancy_scanner.specs.declared.lasting.Lasting.{Lasting}
+use Rattle.fancy_scanner.specs.declared.reuse.Reuse.{Reuse}
 use Rattle.fancy_scanner.specs.declared.scan_limit.ScanLimit.{ScanLimit}
 use Rattle.fancy_scanner.specs.declared.scan_text.TreeScan.{TreeScan}
 use Rattle.fancy_scanner.specs.declared.scan_text.TreeMatch.{TreeMatch}
@@ -143,7 +143,7 @@ module _ (pos : ℕ) (order : List ℕ) where
           slot_among t order j i e ∙ ap (λ o. Some (option_and_then (λ a. a) o)) (holds i kept) ∙ sym (slot_among s order j i e)
 
       still_held : (i : ℕ) → is_held s i pos ≡ true → is_held t i pos ≡ true
-      still_held i kept = ap₂ (λ l a. holds_for l a pos) ((goes.trees).lasting i) (holds i kept) ∙ kept
+      still_held i kept = ap₂ (λ l a. holds_for l a pos) ((goes.trees).reuse i) (holds i kept) ∙ kept
 
       still_seen : (o : Option TreeMatch) → IsSeenAmong s o → IsSeenAmong t o
       still_seen None g = tt
@@ -322,11 +322,11 @@ module _ (text : List ℕ) where
       go (q ∷ rules) (x ∷ xs) (None ∷ answers) trees h = go rules xs answers trees.1 h
       go (q ∷ rules) (x ∷ xs) (Some a ∷ answers) trees h = (h.0, go rules xs answers trees.1 h.1)
 
-lasting_within : (xs : List ScanTree) (k : ℕ) (lasting : Lasting) → option_map (λ x. x.lasting) (slice_get xs k) ≡ Some lasting → k < length xs
-lasting_within [] k lasting e = absurd (none-some lasting e)
-lasting_within (x ∷ xs) zero lasting e = omega arith
-lasting_within (x ∷ xs) (suc k) lasting e =
-    let lt = lasting_within xs k lasting e in omega (arith, lt)
+reuse_within : (xs : List ScanTree) (k : ℕ) (reuse : Reuse) → option_map (λ x. x.reuse) (slice_get xs k) ≡ Some reuse → k < length xs
+reuse_within [] k reuse e = absurd (none-some reuse e)
+reuse_within (x ∷ xs) zero reuse e = omega arith
+reuse_within (x ∷ xs) (suc k) reuse e =
+    let lt = reuse_within xs k reuse e in omega (arith, lt)
 
 get_taken : {X : Type 0} (xs : List X) (n k : ℕ) → k < n → slice_get (take n xs) k ≡ slice_get xs k
 get_taken xs zero k lt = absurd (omega (arith, lt))
@@ -339,7 +339,7 @@ pub held_taken : (s : TreeScan) (pos n k : ℕ) → n ≡ length (trees_of s.sca
     slice_get (take n (answers_of s)) k ≡ slice_get (answers_of s) k
 held_taken s pos n k count e =
     let now = held s k pos e in
-    let within = lasting_within (trees_of s.scanner.now) k now.lasting now.lasts in
+    let within = reuse_within (trees_of s.scanner.now) k now.reuse now.lasts in
     get_taken (answers_of s) n k (omega (arith, within, count))
 
 -- ---- what stands in the order

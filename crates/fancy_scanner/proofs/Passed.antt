@@ -163,7 +163,7 @@ module _ (pos : ℕ) where
   module _ (s t : TreeScan) (k : ℕ) (goes : GoesOn s t) (others : KeepsOthers k s t)
       (limits : (j : ℕ) → j ≢ k → passed_at t.scanner.now j ≡ passed_at s.scanner.now j) where
     pub passed_others : (j : ℕ) → j ≢ k → passed_from pos t j ≡ passed_from pos s j
-    passed_others j ne = ap₂ unless_held (ap₂ (λ l a. holds_for l a pos) ((goes.trees).lasting j) (others j ne)) (limits j ne)
+    passed_others j ne = ap₂ unless_held (ap₂ (λ l a. holds_for l a pos) ((goes.trees).reuse j) (others j ne)) (limits j ne)
 
     pub among_others : (order : List ℕ) (n : ℕ) → AreDistinct order → 0 < n → slice_get order (n - 1) ≡ Some k → (j : ℕ) → n ≤ j →
         passed_among pos order t j ≡ passed_among pos order s j

@@ -13,9 +13,9 @@ use Rattle.fancy_matches.specs.declared.found.Captures.{Captures}
 use Rattle.fancy_matches.specs.declared.options.MatcherOptions.{MatcherOptions}
 use Rattle.fancy_matches.proofs.Easy.{no_limit}
 use Rattle.fancy_matches.proofs.Stepping.{of_same}
-use Rattle.fancy_scanner.specs.Scanning.{Rule, AreEasy, AreEasyRuns, AreTreesOf, EachReplies, FailsForOne, IsEasyRun, IsLastingFor, IsRuleAt, IsScannerOf, IsStoppedByDelegates, IsTreeOf, KeepsTrees, MayFail, MayPass, Replies, Reply, RuleMatch, answer_from, earlier, earliest, error_of, first_stopped, here, in_text, later, match_view, search_limit, stopped_view, trees_of}
+use Rattle.fancy_scanner.specs.Scanning.{Rule, AreEasy, AreEasyRuns, AreTreesOf, EachReplies, FailsForOne, IsEasyRun, IsReuseFor, IsRuleAt, IsScannerOf, IsStoppedByDelegates, IsTreeOf, KeepsTrees, MayFail, MayPass, Replies, Reply, RuleMatch, answer_from, earlier, earliest, error_of, first_stopped, here, in_text, later, match_view, search_limit, stopped_view, trees_of}
 use Rattle.fancy_scanner.specs.Limits.{passed_at}
-use Rattle.fancy_scanner.specs.declared.lasting.Lasting.{Lasting}
+use Rattle.fancy_scanner.specs.declared.reuse.Reuse.{Reuse}
 use Rattle.fancy_scanner.specs.declared.scan_limit.ScanLimit.{ScanLimit}
 use Rattle.fancy_scanner.specs.declared.scan_limit.ScanLimit.TheVariants as limit
 use Rattle.fancy_scanner.specs.declared.scanner.ScanMatch.{ScanMatch}
@@ -65,7 +65,7 @@ module _ (text : List ℕ) where
 
   -- one tree is put in the place of the same one
   pub same_put : (rules : List Rule) (xs : List ScanTree) (k : ℕ) (x y : ScanTree) → AreTreesOf rules text xs →
-      x ≡ get_or xs k x → IsSame x.matcher y.matcher → y.lasting ≡ x.lasting → AreTreesOf rules text (slice_set xs k y)
+      x ≡ get_or xs k x → IsSame x.matcher y.matcher → y.reuse ≡ x.reuse → AreTreesOf rules text (slice_set xs k y)
   same_put [] [] k x y h e same lasts = tt
   same_put [] (z ∷ zs) k x y h e same lasts = absurd h
   same_put (r ∷ rules) [] k x y h e same lasts = absurd h
@@ -73,7 +73,7 @@ module _ (text : List ℕ) where
       let of : IsTreeOf r text x = subst (IsTreeOf r text) (sym e) h.0 in (
         record {
           matcher = of_same x.matcher y.matcher r.input text r.options same of.matcher;
-          lasting = subst (IsLastingFor r) (sym lasts) of.lasting;
+          reuse = subst (IsReuseFor r) (sym lasts) of.reuse;
           limits = ap (λ (o : MatcherOptions). o.limits) same.1 ∙ of.limits;
         },
         h.1,
@@ -81,32 +81,32 @@ module _ (text : List ℕ) where
   same_put (r ∷ rules) (z ∷ zs) (suc k) x y h e same lasts = (h.0, same_put rules zs k x y h.1 e same lasts)
 
   -- of the tree with a number those answers last that last of its rule
-  pub lasting_of : (rules : List Rule) (xs : List ScanTree) (k : ℕ) (r : Rule) (lasting : Lasting) → AreTreesOf rules text xs → IsRuleAt rules k r →
-      option_map (λ x. x.lasting) (slice_get xs k) ≡ Some lasting → IsLastingFor r lasting
-  lasting_of rules [] k r lasting h at e = absurd (none-some _ e)
-  lasting_of [] (x ∷ xs) k r lasting h at e = absurd h
-  lasting_of (q ∷ rules) (x ∷ xs) zero r lasting h at e =
-      subst (λ (p : Rule). IsLastingFor p lasting) (ap (first_of r) at) (subst (IsLastingFor q) (same_Some _ _ e) (h.0).lasting)
-  lasting_of (q ∷ rules) (x ∷ xs) (suc k) r lasting h at e = lasting_of rules xs k r lasting h.1 at e
+  pub reuse_of : (rules : List Rule) (xs : List ScanTree) (k : ℕ) (r : Rule) (reuse : Reuse) → AreTreesOf rules text xs → IsRuleAt rules k r →
+      option_map (λ x. x.reuse) (slice_get xs k) ≡ Some reuse → IsReuseFor r reuse
+  reuse_of rules [] k r reuse h at e = absurd (none-some _ e)
+  reuse_of [] (x ∷ xs) k r reuse h at e = absurd h
+  reuse_of (q ∷ rules) (x ∷ xs) zero r reuse h at e =
+      subst (λ (p : Rule). IsReuseFor p reuse) (ap (first_of r) at) (subst (IsReuseFor q) (same_Some _ _ e) (h.0).reuse)
+  reuse_of (q ∷ rules) (x ∷ xs) (suc k) r reuse h at e = reuse_of rules xs k r reuse h.1 at e
 
 -- the answers of the same tree last as they did
-pub lasting_put : (xs : List ScanTree) (i : ℕ) (x y : ScanTree) → x ≡ get_or xs i x → y.lasting ≡ x.lasting → (k : ℕ) →
-    option_map (λ z. z.lasting) (slice_get (slice_set xs i y) k) ≡ option_map (λ z. z.lasting) (slice_get xs k)
-lasting_put [] i x y e lasts k = refl
-lasting_put (z ∷ zs) zero x y e lasts zero = ap Some (lasts ∙ ap (λ (w : ScanTree). w.lasting) e)
-lasting_put (z ∷ zs) zero x y e lasts (suc k) = refl
-lasting_put (z ∷ zs) (suc i) x y e lasts zero = refl
-lasting_put (z ∷ zs) (suc i) x y e lasts (suc k) = lasting_put zs i x y e lasts k
+pub reuse_put : (xs : List ScanTree) (i : ℕ) (x y : ScanTree) → x ≡ get_or xs i x → y.reuse ≡ x.reuse → (k : ℕ) →
+    option_map (λ z. z.reuse) (slice_get (slice_set xs i y) k) ≡ option_map (λ z. z.reuse) (slice_get xs k)
+reuse_put [] i x y e lasts k = refl
+reuse_put (z ∷ zs) zero x y e lasts zero = ap Some (lasts ∙ ap (λ (w : ScanTree). w.reuse) e)
+reuse_put (z ∷ zs) zero x y e lasts (suc k) = refl
+reuse_put (z ∷ zs) (suc i) x y e lasts zero = refl
+reuse_put (z ∷ zs) (suc i) x y e lasts (suc k) = reuse_put zs i x y e lasts k
 
 -- ---- the same trees
 
 pub keeps_itself : (s : TreeScanner) → KeepsTrees s s
-keeps_itself s = record { count = refl; lasting = λ k. refl; same = λ text rules h. h }
+keeps_itself s = record { count = refl; reuse = λ k. refl; same = λ text rules h. h }
 
 pub keeps_twice : (s t u : TreeScanner) → KeepsTrees s t → KeepsTrees t u → KeepsTrees s u
 keeps_twice s t u h g = record {
   count = g.count ∙ h.count;
-  lasting = λ k. g.lasting k ∙ h.lasting k;
+  reuse = λ k. g.reuse k ∙ h.reuse k;
   same = λ text rules of. g.same text rules (h.same text rules of);
 }
 

@@ -11,11 +11,11 @@ use Rattle.fancy_starts.proofs.Matches.{match_of_answer}
 use Rattle.fancy_bounds.specs.StartsBegun.{begun}
 use Rattle.fancy_bounds.specs.Successive.{AreFurtherOn}
 use Rattle.fancy_bounds.proofs.Successive.{starts_further_on}
-use Rattle.fancy_scanner.specs.Lasting.{MatchesLast, holds_at, is_anchored, lasts_to}
+use Rattle.fancy_scanner.specs.Reuse.{MatchesLast, holds_at, is_anchored, lasts_to}
 use Rattle.fancy_scanner.specs.Scanning.{Rule, answer_from}
 use Rattle.fancy_scanner.specs.Searched.{GoOn, LastsWithoutMatch, search_from, searched, start_from, NoSearchAfterNone, StartsOfScan}
-use Rattle.fancy_scanner.specs.declared.lasting.Lasting.{Lasting}
-use Rattle.fancy_scanner.specs.declared.lasting.Lasting.TheVariants as lasts
+use Rattle.fancy_scanner.specs.declared.reuse.Reuse.{Reuse}
+use Rattle.fancy_scanner.specs.declared.reuse.Reuse.TheVariants as lasts
 use Rattle.fancy_scanner.proofs.Holding.{has_first}
 
 -- a later list of places goes on from an earlier place too
@@ -27,18 +27,18 @@ not_le : (pos start : ℕ) → nat_le pos start ≡ false → start < pos
 not_le pos start e = grind (arith, nat_tests)
 
 -- where an answer from one place does not hold at a later one, that is further on, and it does not last to there
-record Ends (lasting : Lasting) (from : ℕ) (start : Option ℕ) (pos : ℕ) : Type 0 where
+record Ends (reuse : Reuse) (from : ℕ) (start : Option ℕ) (pos : ℕ) : Type 0 where
   further : from < pos
-  ends : lasts_to lasting start pos ≡ false
+  ends : lasts_to reuse start pos ≡ false
 
-ends : (lasting : Lasting) (from : ℕ) (start : Option ℕ) (pos : ℕ) → from ≤ pos → holds_at lasting from start pos ≡ false →
-    Ends lasting from start pos
-ends lasting from start pos le e =
-    let parts = or_parts (from == pos) (nat_lt from pos && lasts_to lasting start pos) e in
+ends : (reuse : Reuse) (from : ℕ) (start : Option ℕ) (pos : ℕ) → from ≤ pos → holds_at reuse from start pos ≡ false →
+    Ends reuse from start pos
+ends reuse from start pos le e =
+    let parts = or_parts (from == pos) (nat_lt from pos && lasts_to reuse start pos) e in
     ⊎_elim
     (λ (lt : from < pos). record {
       further = lt;
-      ends = sym (ap (λ b. b && lasts_to lasting start pos) (lt-ltb from pos lt)) ∙ parts.1;
+      ends = sym (ap (λ b. b && lasts_to reuse start pos) (lt-ltb from pos lt)) ∙ parts.1;
     })
     (λ (ge : pos ≤ from).
     let same : from ≡ pos = omega (arith, le, ge) in
@@ -46,29 +46,29 @@ ends lasting from start pos le e =
     (cases_lt from pos)
 
 module _ (text : List ℕ) (r : Rule) where
-  to_later : (l : Lasting) → LastsWithoutMatch l → (pos : ℕ) → lasts_to l None pos ≡ true
+  to_later : (l : Reuse) → LastsWithoutMatch l → (pos : ℕ) → lasts_to l None pos ≡ true
   to_later lasts.Nothing still pos = absurd still
   to_later lasts.NoMatch still pos = refl
   to_later lasts.Matches still pos = refl
 
-  none_again : (lasting : Lasting) (from : ℕ) (places : List ℕ) → LastsWithoutMatch lasting → GoOn from places →
-      answer_from text from r ≡ None → searched text r lasting (Some from) places ≡ []
-  none_again lasting from [] still h e = refl
-  none_again lasting from (pos ∷ places) still h e =
-      by_test (none_again lasting from places still (go_on from pos places h.0 h.1) e) (holds_at lasting from (start_from text r from) pos) refl
+  none_again : (reuse : Reuse) (from : ℕ) (places : List ℕ) → LastsWithoutMatch reuse → GoOn from places →
+      answer_from text from r ≡ None → searched text r reuse (Some from) places ≡ []
+  none_again reuse from [] still h e = refl
+  none_again reuse from (pos ∷ places) still h e =
+      by_test (none_again reuse from places still (go_on from pos places h.0 h.1) e) (holds_at reuse from (start_from text r from) pos) refl
     where
       start : start_from text r from ≡ None
       start = ap (option_map (λ numbers. (first_pair numbers).0)) e
 
-      by_test : searched text r lasting (Some from) places ≡ [] → (b : Bool) → holds_at lasting from (start_from text r from) pos ≡ b →
-          (if holds_at lasting from (start_from text r from) pos then searched text r lasting (Some from) places
-          else pos ∷ searched text r lasting (Some pos) places)
+      by_test : searched text r reuse (Some from) places ≡ [] → (b : Bool) → holds_at reuse from (start_from text r from) pos ≡ b →
+          (if holds_at reuse from (start_from text r from) pos then searched text r reuse (Some from) places
+          else pos ∷ searched text r reuse (Some pos) places)
           ≡ []
       by_test rest true is =
-          ap (λ b. if b then searched text r lasting (Some from) places else pos ∷ searched text r lasting (Some pos) places) is ∙ rest
+          ap (λ b. if b then searched text r reuse (Some from) places else pos ∷ searched text r reuse (Some pos) places) is ∙ rest
       by_test rest false is =
-          let past = ends lasting from (start_from text r from) pos h.0 is in
-          absurd (true≢false (sym (to_later lasting still pos) ∙ sym (ap (λ s. lasts_to lasting s pos) start) ∙ past.ends))
+          let past = ends reuse from (start_from text r from) pos h.0 is in
+          absurd (true≢false (sym (to_later reuse still pos) ∙ sym (ap (λ s. lasts_to reuse s pos) start) ∙ past.ends))
 
   module _ (last : MatchesLast (is_anchored (plan r.input) r.options) (plan r.input).analysis.tree) where
     -- the match before begins before the place of the next search
@@ -131,7 +131,7 @@ module _ (text : List ℕ) (r : Rule) where
         omega (arith, most, count, length-append all.starts (places_from text pos))
 
 pub no_search_after_none : NoSearchAfterNone
-no_search_after_none text r lasting from places lasts h e = none_again text r lasting from places lasts h e
+no_search_after_none text r reuse from places lasts h e = none_again text r reuse from places lasts h e
 
 pub starts_of_scan : StartsOfScan
 starts_of_scan text r places last h = starts text r last places h

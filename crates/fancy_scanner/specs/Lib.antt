@@ -1,8 +1,8 @@
 pub mod Among
 pub mod Kept
-pub mod Lasting
+pub mod Reuse
 pub mod Limits
 pub mod Scanning
 pub mod Scans
 pub mod Searched
-pub mod Sought
+pub mod NodeKinds

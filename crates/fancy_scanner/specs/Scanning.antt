@@ -19,8 +19,8 @@ use Rattle.fancy_search.specs.declared.search.SearchOptions.{SearchOptions}
 use Rattle.fancy_matches.specs.Listing.{backtracks_for, begun_at, options_for, steps_for}
 use Rattle.fancy_matches.specs.Matchers.{IsNoLimit, IsRegexOf, numbers_in, captures_text}
 use Rattle.fancy_matches.specs.declared.matcher.Matcher.{Matcher}
-use Rattle.fancy_scanner.specs.Lasting.{IsLasting, is_anchored}
-use Rattle.fancy_scanner.specs.declared.lasting.Lasting.{Lasting}
+use Rattle.fancy_scanner.specs.Reuse.{IsReuse, is_anchored}
+use Rattle.fancy_scanner.specs.declared.reuse.Reuse.{Reuse}
 use Rattle.fancy_scanner.specs.declared.scan_limit.ScanLimit.{ScanLimit}
 use Rattle.fancy_scanner.specs.declared.scan_limit.ScanLimit.TheVariants as limit
 use Rattle.fancy_scanner.specs.declared.scanner.Scan.{Scan}
@@ -174,8 +174,8 @@ rule_of tree options asked text = record {
 }
 
 -- so answers of searches for the rule last
-abbrev pub IsLastingFor : Rule → Lasting → Type 0
-IsLastingFor r = IsLasting (is_anchored (plan r.input) r.options) (plan r.input).analysis.tree
+abbrev pub IsReuseFor : Rule → Reuse → Type 0
+IsReuseFor r = IsReuse (is_anchored (plan r.input) r.options) (plan r.input).analysis.tree
 
 -- how much the delegates of its searches may take
 abbrev pub limits_in : Matcher → SearchLimits
@@ -185,7 +185,7 @@ limits_in r = r.options.limits
 -- so.
 pub record IsTreeOf (r : Rule) (text : List ℕ) (x : ScanTree) : Type 0 where
   pub matcher : IsRegexOf r.input text r.options x.matcher
-  pub lasting : IsLastingFor r x.lasting
+  pub reuse : IsReuseFor r x.reuse
   pub limits : limits_in x.matcher ≡ r.limits
 
 -- they are trees of these rules, one by one
@@ -206,11 +206,11 @@ abbrev pub IsRuleAt : List Rule → ℕ → Rule → Type 0
 IsRuleAt rules k r = drop k rules ≡ r ∷ drop (suc k) rules
 
 -- which answers of the tree with this number last
-abbrev pub lasting_at : TreeScanner → ℕ → Option Lasting
-lasting_at s k = option_map (λ x. x.lasting) (slice_get (trees_of s) k)
+abbrev pub reuse_at : TreeScanner → ℕ → Option Reuse
+reuse_at s k = option_map (λ x. x.reuse) (slice_get (trees_of s) k)
 
 -- it has the same trees after a call as before
 pub record KeepsTrees (s t : TreeScanner) : Type 0 where
   pub count : length (trees_of t) ≡ length (trees_of s)
-  pub lasting : (k : ℕ) → lasting_at t k ≡ lasting_at s k
+  pub reuse : (k : ℕ) → reuse_at t k ≡ reuse_at s k
   pub same : (text : List ℕ) (rules : List Rule) → IsScannerOf rules text s → IsScannerOf rules text t

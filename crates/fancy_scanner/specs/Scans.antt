@@ -7,10 +7,10 @@ use Rattle.fancy_matches.specs.Matchers.{FindsCaptures, shown_match, span_of}
 use Rattle.fancy_matches.specs.declared.found.Captures.{Captures}
 use Rattle.fancy_matches.specs.declared.found.Match.{Match}
 use Rattle.fancy_scanner.specs.Kept.{answer_start, kept_captures, shown_whole}
-use Rattle.fancy_scanner.specs.Lasting.{holds_at}
-use Rattle.fancy_scanner.specs.Scanning.{IsScannerOf, KeepsTrees, Rule, lasting_at, trees_of}
+use Rattle.fancy_scanner.specs.Reuse.{holds_at}
+use Rattle.fancy_scanner.specs.Scanning.{IsScannerOf, KeepsTrees, Rule, reuse_at, trees_of}
 use Rattle.fancy_scanner.specs.declared.answers.Answer.{Answer}
-use Rattle.fancy_scanner.specs.declared.lasting.Lasting.{Lasting}
+use Rattle.fancy_scanner.specs.declared.reuse.Reuse.{Reuse}
 use Rattle.fancy_scanner.specs.declared.scan_cache.ScanCache.{ScanCache}
 use Rattle.fancy_scanner.specs.declared.scan_text.ScanStep.{ScanStep}
 use Rattle.fancy_scanner.specs.declared.scan_text.TreeScan.{TreeScan}
@@ -84,13 +84,13 @@ pub record GoesOn (s t : TreeScan) : Type 0 where
 -- ---- what is not searched for again
 
 -- what is kept of a tree whose answers last so holds at this place
-abbrev pub holds_for : Option Lasting → Option (Option Answer) → ℕ → Bool
-holds_for (Some lasting) (Some (Some a)) pos = holds_at lasting a.from (answer_start a) pos
-holds_for lasting answer pos = false
+abbrev pub holds_for : Option Reuse → Option (Option Answer) → ℕ → Bool
+holds_for (Some reuse) (Some (Some a)) pos = holds_at reuse a.from (answer_start a) pos
+holds_for reuse answer pos = false
 
 -- so does what is kept of the tree with this number
 abbrev pub is_kept : TreeScanner → List (Option Answer) → ℕ → ℕ → Bool
-is_kept by kept k pos = holds_for (lasting_at by k) (slice_get kept k) pos
+is_kept by kept k pos = holds_for (reuse_at by k) (slice_get kept k) pos
 
 abbrev pub is_held : TreeScan → ℕ → ℕ → Bool
 is_held s k pos = is_kept s.scanner.now (answers_of s) k pos

@@ -6,10 +6,10 @@ use Rattle.fancy_meaning.specs.Premises.{plan}
 use Rattle.fancy_steps.specs.Outcomes.{first_pair}
 use Rattle.fancy_bounds.specs.StartsBegun.{begun}
 use Rattle.fancy_matches.specs.Listing.{begun_at}
-use Rattle.fancy_scanner.specs.Lasting.{MatchesLast, holds_at, is_anchored}
+use Rattle.fancy_scanner.specs.Reuse.{MatchesLast, holds_at, is_anchored}
 use Rattle.fancy_scanner.specs.Scanning.{Rule, answer_from}
-use Rattle.fancy_scanner.specs.declared.lasting.Lasting.{Lasting}
-use Rattle.fancy_scanner.specs.declared.lasting.Lasting.TheVariants as lasts
+use Rattle.fancy_scanner.specs.declared.reuse.Reuse.{Reuse}
+use Rattle.fancy_scanner.specs.declared.reuse.Reuse.TheVariants as lasts
 
 -- each place is not before this one, nor before the one that was asked at before it
 abbrev pub GoOn : ℕ → List ℕ → Type 0
@@ -26,20 +26,20 @@ module _ (text : List ℕ) (r : Rule) where
   start_from pos = option_map (λ numbers. (first_pair numbers).0) (answer_from text pos r)
 
   -- the answer of the last search, which began at this place, holds at another
-  abbrev pub last_holds : Lasting → Option ℕ → ℕ → Bool
-  last_holds lasting None pos = false
-  last_holds lasting (Some from) pos = holds_at lasting from (start_from from) pos
+  abbrev pub last_holds : Reuse → Option ℕ → ℕ → Bool
+  last_holds reuse None pos = false
+  last_holds reuse (Some from) pos = holds_at reuse from (start_from from) pos
 
   -- of these places those from which the rule is searched for: where the answer of the last search does not hold
-  abbrev pub searched : Lasting → Option ℕ → List ℕ → List ℕ
-  searched lasting last [] = []
-  searched lasting last (pos ∷ places) =
-      if last_holds lasting last pos then searched lasting last places else pos ∷ searched lasting (Some pos) places
+  abbrev pub searched : Reuse → Option ℕ → List ℕ → List ℕ
+  searched reuse last [] = []
+  searched reuse last (pos ∷ places) =
+      if last_holds reuse last pos then searched reuse last places else pos ∷ searched reuse (Some pos) places
 
 -- that there is no match lasts
-abbrev pub LastsWithoutMatch : Lasting → Type 0
+abbrev pub LastsWithoutMatch : Reuse → Type 0
 LastsWithoutMatch lasts.Nothing = ⊥
-LastsWithoutMatch lasting = Unit {0}
+LastsWithoutMatch reuse = Unit {0}
 
 -- ---- theorems
 
@@ -52,6 +52,6 @@ StartsOfScan = (text : List ℕ) (r : Rule) (places : List ℕ) →
 
 -- Once a search finds no match, none is made again.
 abbrev pub NoSearchAfterNone : Type 0
-NoSearchAfterNone = (text : List ℕ) (r : Rule) (lasting : Lasting) (from : ℕ) (places : List ℕ) →
-    LastsWithoutMatch lasting → GoOn from places → answer_from text from r ≡ None →
-    searched text r lasting (Some from) places ≡ []
+NoSearchAfterNone = (text : List ℕ) (r : Rule) (reuse : Reuse) (from : ℕ) (places : List ℕ) →
+    LastsWithoutMatch reuse → GoOn from places → answer_from text from r ≡ None →
+    searched text r reuse (Some from) places ≡ []

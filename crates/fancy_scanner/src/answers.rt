@@ -2,9 +2,9 @@
 
 ghost use Rattle.std.specs.Prelude.{◌≡◌};
 ghost use Rattle.fancy_scanner.specs.Kept.{answer_start};
-ghost use Rattle.fancy_scanner.specs.Lasting.{holds_at};
+ghost use Rattle.fancy_scanner.specs.Reuse.{holds_at};
 
-use crate::lasting::Lasting;
+use crate::reuse::Reuse;
 use fancy_matches::found::Captures;
 
 /// The answer of a search for a tree, with the place from which the tree was searched for.
@@ -26,9 +26,9 @@ impl Answer<'_> {
     }
 
     /// A search from this place on has the same answer.
-    pub(crate) fn holds_at(&self, pos: usize, lasting: Lasting) -> bool
-        ensures { result ≡ holds_at lasting self.now.from (answer_start self.now) pos }
+    pub(crate) fn holds_at(&self, pos: usize, reuse: Reuse) -> bool
+        ensures { result ≡ holds_at reuse self.now.from (answer_start self.now) pos }
     {
-        self.from == pos || (self.from < pos && lasting.lasts_to(self.start(), pos))
+        self.from == pos || (self.from < pos && reuse.lasts_to(self.start(), pos))
     }
 }

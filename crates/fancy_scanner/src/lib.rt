@@ -3,10 +3,10 @@
 
 mod among;
 mod answers;
-mod lasting;
+mod node_kind;
+mod reuse;
 pub mod scan_cache;
 pub mod scan_limit;
 pub mod scan_text;
 pub mod scanner;
 pub mod searched;
-mod sought;

@@ -160,10 +160,10 @@ impl<'r, 't> TreeScan<'r, 't> {
         requires within { index < length (trees_of self.now.scanner.now) }
         ensures { result ≡ scans.is_held self.now index pos }
     {
-        let lasting = self.scanner.lasting(index);
+        let reuse = self.scanner.reuse(index);
         match &self.cache.answers[index] {
             None => false,
-            Some(answer) => answer.holds_at(pos, lasting),
+            Some(answer) => answer.holds_at(pos, reuse),
         }
     }
 

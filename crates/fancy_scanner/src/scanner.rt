@@ -9,12 +9,12 @@ ghost use Rattle.fancy_matches.specs.Listing.{begun_at};
 ghost use Rattle.fancy_matches.specs.Matchers.{FindsCaptures, IsRegexOf, captures_text};
 ghost use Rattle.fancy_search.specs.Searches.{IsRefusedAs, input_of, search_fits};
 ghost use Rattle.fancy_scanner.specs.Scanning as scanning;
-ghost use Rattle.fancy_scanner.specs.Scanning.{AreEasy, AreEasyRuns, IsRuleAt, IsStoppedByDelegates, IsScannerOf, IsTreeOf, KeepsTrees, RuleMatch, Rule, Scans, in_text, lasting_at, limits_in, match_view, rule_match, rule_of, start_of, trees_of};
+ghost use Rattle.fancy_scanner.specs.Scanning.{AreEasy, AreEasyRuns, IsRuleAt, IsStoppedByDelegates, IsScannerOf, IsTreeOf, KeepsTrees, RuleMatch, Rule, Scans, in_text, reuse_at, limits_in, match_view, rule_match, rule_of, start_of, trees_of};
 ghost use Rattle.fancy_scanner.specs.Limits.{TellsPassed, passed_at, passed_with};
 ghost use Rattle.fancy_scanner.specs.Scans.{BeginsScan, IsScanBy, IsWholeIn, KeepsAnswers, answers_in, told_with};
 ghost use Rattle.fancy_steps.specs.SearchLimits.{StaysWithin};
 
-use crate::lasting::Lasting;
+use crate::reuse::Reuse;
 use crate::scan_cache::ScanCache;
 use crate::scan_limit::{ScanLimit, limit_of};
 use crate::scan_text::{ScanStep, TreeScan};
@@ -64,7 +64,7 @@ impl ScanMatch<'_> {
 /// A tree that is compiled for a scanner.
 pub struct ScanTree {
     matcher: Matcher,
-    lasting: Lasting,
+    reuse: Reuse,
 }
 
 // Not derived: whoever owns one calls this drop, and would prove a derived one again (docs/GATE.md).
@@ -72,7 +72,7 @@ impl Drop for ScanTree {
     fn drop(self) {
         let ScanTree {
             matcher: _,
-            lasting: _,
+            reuse: _,
         } = self;
     }
 }
@@ -100,8 +100,8 @@ impl ScanTree {
             options.now.compilation.max_nesting) }
     {
         let matcher = Matcher::new(alloc, tree, options, backtrack_limit)?;
-        let lasting = Lasting::of(tree, options);
-        Ok(ScanTree { matcher, lasting })
+        let reuse = Reuse::of(tree, options);
+        Ok(ScanTree { matcher, reuse })
     }
 
     /// Sets how many states the delegates of each later search may visit together, and how many bytes they may keep.
@@ -173,7 +173,7 @@ impl TreeScanner {
     {
         self.push(ScanTree {
             matcher,
-            lasting: Lasting::Nothing,
+            reuse: Reuse::Nothing,
         })?;
         Ok(())
     }
@@ -216,11 +216,11 @@ impl TreeScanner {
     }
 
     /// Which results of the tree with this number last.
-    pub(crate) fn lasting(&self, index: usize) -> Lasting
+    pub(crate) fn reuse(&self, index: usize) -> Reuse
         requires { index < length (trees_of self.now) }
-        ensures { Some result ≡ lasting_at self.now index }
+        ensures { Some result ≡ reuse_at self.now index }
     {
-        self.trees[index].lasting
+        self.trees[index].reuse
     }
 
     /// What a search for the tree with this number answers from this place on, a byte of the text.

@@ -44,7 +44,7 @@ struct Run<'r> {
 
 /// Where a stepper is: the instruction that is next, and what was done before.
 #[derive(Clone, Copy)]
-struct Standing {
+struct Snapshot {
     steps: u64,
     /// The byte of the text.
     at: usize,
@@ -54,9 +54,9 @@ struct Standing {
     place: usize,
 }
 
-impl Standing {
-    fn of(stepper: &Stepper<'_>) -> Standing {
-        Standing {
+impl Snapshot {
+    fn of(stepper: &Stepper<'_>) -> Snapshot {
+        Snapshot {
             steps: stepper.steps(),
             at: stepper.ix(),
             branches: stepper.branches(),
@@ -67,21 +67,21 @@ impl Standing {
 }
 
 /// Writes how far a run has come in the text.
-fn push_progress(out: &mut String, text: &str, standing: Standing) -> Result<(), AllocError> {
-    let Standing { steps, at, .. } = standing;
+fn push_progress(out: &mut String, text: &str, snapshot: Snapshot) -> Result<(), AllocError> {
+    let Snapshot { steps, at, .. } = snapshot;
     write!(out, "{steps:>8}  {at:>6}  ")?;
     push_around(out, text, at)
 }
 
 /// Writes where a stepper is, but for the instruction.
-fn push_standing(out: &mut String, text: &str, standing: Standing) -> Result<(), AllocError> {
-    push_progress(out, text, standing)?;
-    let Standing {
+fn push_snapshot(out: &mut String, text: &str, snapshot: Snapshot) -> Result<(), AllocError> {
+    push_progress(out, text, snapshot)?;
+    let Snapshot {
         branches,
         backtracks,
         place,
         ..
-    } = standing;
+    } = snapshot;
     write!(out, "  {branches:>8}  {backtracks:>10}  {place} ")
 }
 
@@ -94,9 +94,9 @@ fn push_next(out: &mut String, run: Run<'_>, place: usize) -> Result<(), AllocEr
 }
 
 /// Writes where a stepper is, on a line.
-fn push_step(out: &mut String, run: Run<'_>, standing: Standing) -> Result<(), AllocError> {
-    push_standing(out, run.text, standing)?;
-    push_next(out, run, standing.place)
+fn push_step(out: &mut String, run: Run<'_>, snapshot: Snapshot) -> Result<(), AllocError> {
+    push_snapshot(out, run.text, snapshot)?;
+    push_next(out, run, snapshot.place)
 }
 
 /// Writes where a group stands and what it takes, if it is set.
@@ -160,7 +160,7 @@ fn push_steps(
     out.push_str(HEAD)?;
     let mut stepper = stepper;
     for _ in 0..=most {
-        push_step(out, run, Standing::of(&stepper))?;
+        push_step(out, run, Snapshot::of(&stepper))?;
         match stepper.step() {
             Ok(Progress::GoesOn(further)) => stepper = further,
             Ok(Progress::Ends(found)) => {

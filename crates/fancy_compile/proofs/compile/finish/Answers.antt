@@ -15,8 +15,8 @@ use Rattle.fancy_compile.proofs.compile.finish.Goals as goal
 pub total_groups-requires : goal.total_groups-requires
 total_groups-requires c = (c.requires.0, (c.requires.1).root)
 
-pub has_sought-requires : goal.has_sought-requires
-has_sought-requires c = (analysis c.requires.0, root_known c.requires.0 c.args.info.now (c.requires.1).root)
+pub has_kind-requires : goal.has_kind-requires
+has_kind-requires c = (analysis c.requires.0, root_known c.requires.0 c.args.info.now (c.requires.1).root)
 
 pub returns-in-Some : goal.returns-in-Some
 returns-in-Some c = λ a m mode h.
@@ -31,7 +31,7 @@ new-requires c =
     let w = written p c.args.options.max_nesting (draft_of c.args.writer) c.requires.3 c.in-None.is in
     let same = finish_compiles a c.args.info.now c.args.options m c.explicit_capture_group_0.result c.total_groups.result c.explicit_capture_group_0.ensures
     (c.total_groups.ensures.value a m.root)
-    c.find_not_empty.result c.leftmost_longest.result c.has_sought.result c.find_not_empty.ensures c.leftmost_longest.ensures c.has_sought.ensures
+    c.find_not_empty.result c.leftmost_longest.result c.has_kind.result c.find_not_empty.ensures c.leftmost_longest.ensures c.has_kind.ensures
     c.max_size.result c.max.result (draft_of c.args.writer) c.max_size.ensures w.0
     (omega (arith, c.max.ensures)) in
     ap program_fits same ∙ fits a c.args.options m.accepted
@@ -43,7 +43,7 @@ returns c = λ a m mode h.
     let w = written p c.args.options.max_nesting t h c.in-None.is in
     let same = finish_compiles a c.args.info.now c.args.options m c.explicit_capture_group_0.result c.total_groups.result c.explicit_capture_group_0.ensures
     (c.total_groups.ensures.value a m.root)
-    c.find_not_empty.result c.leftmost_longest.result c.has_sought.result c.find_not_empty.ensures c.leftmost_longest.ensures c.has_sought.ensures
+    c.find_not_empty.result c.leftmost_longest.result c.has_kind.result c.find_not_empty.ensures c.leftmost_longest.ensures c.has_kind.ensures
     c.max_size.result c.max.result t c.max_size.ensures w.0 (omega (arith, c.max.ensures)) in
     let small : ForSome p.max_prog_size (λ n. length (whole_code p).instrs ≤ n) =
     λ most is. omega (arith, c.args.writer.within most (h.limit ∙ is), length-map c.args.writer.code.items insn_of, ap length (w.0).instrs) in

@@ -3,7 +3,7 @@ use Rattle.fancy_meaning.specs.Instr.{Instr}
 use Rattle.fancy_expr.specs.Views.{bound_of}
 use Rattle.fancy_code.specs.Drafts.{draft_of, Writes}
 use Rattle.fancy_code.specs.Arounds.{around_code}
-use Rattle.fancy_code.specs.declared.around.Around.TheVariants as around
+use Rattle.fancy_code.specs.declared.around.Construct.TheVariants as around
 use Rattle.fancy_code.specs.declared.loops.LoopKind.TheVariants as kind
 use Rattle.fancy_code.proofs.Closings.{ended_counted, same_patch, laid_length}
 use Rattle.fancy_code.proofs.writer.CodeWriter.end_counted.Goals as goal

@@ -2,7 +2,7 @@ use Rattle.std.proofs.Common.{ℕ, ◌+◌, ◌∙◌, subst, arith}
 use Rattle.fancy_meaning.specs.Instr.{Instr}
 use Rattle.fancy_code.specs.Drafts.{draft_of, Writes}
 use Rattle.fancy_code.specs.Arounds.{around_code}
-use Rattle.fancy_code.specs.declared.around.Around.TheVariants as around
+use Rattle.fancy_code.specs.declared.around.Construct.TheVariants as around
 use Rattle.fancy_code.specs.declared.loops.LoopKind.TheVariants as kind
 use Rattle.fancy_code.proofs.Closings.{ended_epsilon, same_patch, laid_length}
 use Rattle.fancy_code.proofs.writer.CodeWriter.end_epsilon.Goals as goal

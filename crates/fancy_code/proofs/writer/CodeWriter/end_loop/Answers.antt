@@ -1,7 +1,7 @@
 use Rattle.std.proofs.Common.{sym, subst}
 use Rattle.fancy_code.specs.Arounds.{Ends}
 use Rattle.fancy_code.specs.Drafts.{draft_of}
-use Rattle.fancy_code.specs.declared.around.Around.TheVariants as around
+use Rattle.fancy_code.specs.declared.around.Construct.TheVariants as around
 use Rattle.fancy_code.proofs.writer.CodeWriter.end_loop.Goals as goal
 
 pub returns-in-AtMostOnce : goal.returns-in-AtMostOnce

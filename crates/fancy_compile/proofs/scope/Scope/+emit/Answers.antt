@@ -32,7 +32,7 @@ use Rattle.fancy_code.proofs.Writing.{wrote_then, wrote_nothing}
 use Rattle.fancy_code.proofs.Patches.{wrote_both}
 use Rattle.fancy_compile.proofs.Concat.{ahead_by, negative_by}
 use Rattle.fancy_expr.specs.Views.{look_of, bound_of}
-use Rattle.fancy_code.specs.declared.around.Around.TheVariants as around
+use Rattle.fancy_code.specs.declared.around.Construct.TheVariants as around
 use Rattle.fancy_code.specs.Arounds.{around_code, form_of, kind_form, behind, not_ahead, not_behind}
 use Rattle.fancy_meaning.specs.OpenCalls.{call_depth}
 use Rattle.fancy_compile.specs.OpenDepths.{depths_of}

@@ -9,7 +9,7 @@ returns-in-None c =
     let room = c.requires.room in
     let within = c.requires.within in
     let there : c.args.index < length answers = omega (arith, room, within) in
-    ap₂ (λ l a. holds_for l a c.args.pos) c.lasting-lasting.ensures
+    ap₂ (λ l a. holds_for l a c.args.pos) c.reuse-reuse.ensures
     (sym (get_read answers c.args.index c.index.result.now there c.index.ensures ∙ ap Some c.in-None.is))
 
 pub returns-in-Some : goal.returns-in-Some
@@ -19,5 +19,5 @@ returns-in-Some c =
     let within = c.requires.within in
     let there : c.args.index < length answers = omega (arith, room, within) in
     c.holds_at.ensures
-    ∙ ap₂ (λ l a. holds_for l a c.args.pos) c.lasting-lasting.ensures
+    ∙ ap₂ (λ l a. holds_for l a c.args.pos) c.reuse-reuse.ensures
     (sym (get_read answers c.args.index c.index.result.now there c.index.ensures ∙ ap Some c.in-Some.is))

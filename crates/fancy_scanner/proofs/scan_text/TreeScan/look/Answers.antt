@@ -44,7 +44,7 @@ returns-in-Err-clause-limits c = c.captures_of.ensures.others
 
 pub returns-in-Err-clause-failed : goal.returns-in-Err-clause-failed
 returns-in-Err-clause-failed c = (
-  ap (λ l. holds_for l (slice_get (answers_of c.args.self.now) c.args.index) c.args.pos) (c.captures_of.ensures.same.lasting c.args.index)
+  ap (λ l. holds_for l (slice_get (answers_of c.args.self.now) c.args.index) c.args.pos) (c.captures_of.ensures.same.reuse c.args.index)
       ∙ (sym c.holds.ensures ∙ c.if-holds.false),
   c.in-Err.ensures.stays,
 )

@@ -12,6 +12,6 @@ returns c = λ r text h. record {
     options =
         ap (λ (o : MatcherOptions). options_for (run_options_of o.run) o.backtrack_limit text) c.limit.ensures.options ∙ (h.matcher).options;
   };
-  lasting = h.lasting;
+  reuse = h.reuse;
   limits = ap (λ (o : MatcherOptions). o.limits) c.limit.ensures.options;
 }

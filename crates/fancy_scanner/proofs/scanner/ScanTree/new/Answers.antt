@@ -7,6 +7,6 @@ returns c = λ text.
     let made = c.in_ok-matcher.ensures.made in
     record {
       matcher = record { compiled = made.compiled; options = ap₂ (λ o asked. options_for o asked text) made.options made.backtracks };
-      lasting = c.of-lasting.ensures;
+      reuse = c.of-reuse.ensures;
       limits = c.in_ok-matcher.ensures.limits;
     }

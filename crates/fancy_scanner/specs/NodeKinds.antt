@@ -5,13 +5,13 @@ use Rattle.fancy_meaning.specs.Nodes.{is_keep_out}
 use Rattle.fancy_meaning.specs.Tree.{Tree}
 use Rattle.fancy_expr.specs.declared.expr.Expr.{Expr}
 use Rattle.fancy_expr.specs.declared.expr.Expr.TheVariants as code
-use Rattle.fancy_scanner.specs.declared.sought.Sought.{Sought}
-use Rattle.fancy_scanner.specs.declared.sought.Sought.TheVariants as kind
+use Rattle.fancy_scanner.specs.declared.node_kind.NodeKind.{NodeKind}
+use Rattle.fancy_scanner.specs.declared.node_kind.NodeKind.TheVariants as kind
 
 -- a node of this kind
-abbrev pub is_sought : Sought → Tree → Bool
-is_sought kind.Continue = is_continue
-is_sought kind.KeepOut = is_keep_out
+abbrev pub is_of_kind : NodeKind → Tree → Bool
+is_of_kind kind.Continue = is_continue
+is_of_kind kind.KeepOut = is_keep_out
 
 abbrev pub is_continue_expr : Expr → Bool
 is_continue_expr code.ContinueFromPreviousMatchEnd = true
@@ -21,6 +21,6 @@ abbrev pub is_keep_out_expr : Expr → Bool
 is_keep_out_expr code.KeepOut = true
 is_keep_out_expr e = false
 
-abbrev pub is_sought_expr : Sought → Expr → Bool
-is_sought_expr kind.Continue = is_continue_expr
-is_sought_expr kind.KeepOut = is_keep_out_expr
+abbrev pub is_of_kind_expr : NodeKind → Expr → Bool
+is_of_kind_expr kind.Continue = is_continue_expr
+is_of_kind_expr kind.KeepOut = is_keep_out_expr

@@ -4,8 +4,8 @@ use Rattle.fancy_meaning.specs.Tree.{Tree}
 use Rattle.fancy_meaning.specs.Nodes.{is_absent, is_keep_out}
 use Rattle.fancy_expr.specs.declared.expr.Expr.{Expr}
 use Rattle.fancy_expr.specs.declared.expr.Expr.TheVariants as code
-use Rattle.fancy_compile.specs.declared.below.Sought.{Sought}
-use Rattle.fancy_compile.specs.declared.below.Sought.TheVariants as kind
+use Rattle.fancy_compile.specs.declared.below.NodeKind.{NodeKind}
+use Rattle.fancy_compile.specs.declared.below.NodeKind.TheVariants as kind
 
 -- the expression is an absent operator
 abbrev pub is_absent_expr : Expr → Bool
@@ -17,11 +17,11 @@ abbrev pub is_keep_out_expr : Expr → Bool
 is_keep_out_expr code.KeepOut = true
 is_keep_out_expr e = false
 
-abbrev pub is_sought_expr : Sought → Expr → Bool
-is_sought_expr kind.AbsentNode = is_absent_expr
-is_sought_expr kind.KeepOutNode = is_keep_out_expr
+abbrev pub is_of_kind_expr : NodeKind → Expr → Bool
+is_of_kind_expr kind.AbsentNode = is_absent_expr
+is_of_kind_expr kind.KeepOutNode = is_keep_out_expr
 
 -- the node is of this kind
-abbrev pub is_sought : Sought → Tree → Bool
-is_sought kind.AbsentNode = is_absent
-is_sought kind.KeepOutNode = is_keep_out
+abbrev pub is_of_kind : NodeKind → Tree → Bool
+is_of_kind kind.AbsentNode = is_absent
+is_of_kind kind.KeepOutNode = is_keep_out

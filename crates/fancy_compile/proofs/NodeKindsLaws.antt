@@ -7,9 +7,9 @@ use Rattle.fancy_expr.specs.declared.expr.Absent.TheVariants as code_absent
 use Rattle.fancy_expr.specs.declared.expr.Expr.{Expr}
 use Rattle.fancy_expr.specs.declared.expr.Expr.TheVariants as code
 use Rattle.fancy_info.specs.Infos.{node_over, absent_over}
-use Rattle.fancy_compile.specs.declared.below.Sought.{Sought}
-use Rattle.fancy_compile.specs.declared.below.Sought.TheVariants as kind
-use Rattle.fancy_compile.specs.SoughtNodes.{is_absent_expr, is_keep_out_expr, is_sought, is_sought_expr}
+use Rattle.fancy_compile.specs.declared.below.NodeKind.{NodeKind}
+use Rattle.fancy_compile.specs.declared.below.NodeKind.TheVariants as kind
+use Rattle.fancy_compile.specs.NodeKinds.{is_absent_expr, is_keep_out_expr, is_of_kind, is_of_kind_expr}
 
 module _ (es : Trees) (n : ℕ) (w : Within) where
   absent_is : (a : Absent) → is_absent (absent_over a es) ≡ true
@@ -32,6 +32,6 @@ module _ (es : Trees) (n : ℕ) (w : Within) where
   over_keep_out (code.Absent a) = absent_is_no_keep_out a
   over_keep_out e = refl
 
-  pub over_sought : (k : Sought) (e : Expr) → is_sought k (node_over e n w es) ≡ is_sought_expr k e
-  over_sought kind.AbsentNode = over_absent
-  over_sought kind.KeepOutNode = over_keep_out
+  pub over_kind : (k : NodeKind) (e : Expr) → is_of_kind k (node_over e n w es) ≡ is_of_kind_expr k e
+  over_kind kind.AbsentNode = over_absent
+  over_kind kind.KeepOutNode = over_keep_out

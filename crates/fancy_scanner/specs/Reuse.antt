@@ -4,8 +4,8 @@ use Rattle.std.specs.Prelude.{◌≡◌, ◌==◌, ◌||◌, ◌&&◌, ℕ, Bool
 use Rattle.fancy_meaning.specs.Options.{Plan, RunOptions}
 use Rattle.fancy_meaning.specs.Tree.{Tree}
 use Rattle.fancy_starts.specs.Matches.{has_continue, has_keep_out}
-use Rattle.fancy_scanner.specs.declared.lasting.Lasting.{Lasting}
-use Rattle.fancy_scanner.specs.declared.lasting.Lasting.TheVariants as lasts
+use Rattle.fancy_scanner.specs.declared.reuse.Reuse.{Reuse}
+use Rattle.fancy_scanner.specs.declared.reuse.Reuse.TheVariants as lasts
 
 -- one start alone is tried
 abbrev pub is_anchored : Plan → RunOptions → Bool
@@ -22,18 +22,18 @@ pub record MatchesLast (anchored : Bool) (e : Tree) : Type 0 where
   pub no_keep_out : has_keep_out e ≡ false
 
 -- so answers of searches for the tree last
-abbrev pub IsLasting : Bool → Tree → Lasting → Type 0
-IsLasting anchored e lasts.Nothing = Unit {0}
-IsLasting anchored e lasts.NoMatch = NoMatchLasts anchored e
-IsLasting anchored e lasts.Matches = MatchesLast anchored e
+abbrev pub IsReuse : Bool → Tree → Reuse → Type 0
+IsReuse anchored e lasts.Nothing = Unit {0}
+IsReuse anchored e lasts.NoMatch = NoMatchLasts anchored e
+IsReuse anchored e lasts.Matches = MatchesLast anchored e
 
 -- an answer lasts to this later place, where its match begins there, or where it has none
-abbrev pub lasts_to : Lasting → Option ℕ → ℕ → Bool
+abbrev pub lasts_to : Reuse → Option ℕ → ℕ → Bool
 lasts_to lasts.Nothing start pos = false
 lasts_to lasts.NoMatch start pos = is_none start
 lasts_to lasts.Matches None pos = true
 lasts_to lasts.Matches (Some start) pos = nat_le pos start
 
 -- An answer that was asked from one place holds at another: at the same, and at later ones to which it lasts.
-abbrev pub holds_at : Lasting → ℕ → Option ℕ → ℕ → Bool
-holds_at lasting from start pos = (from == pos) || (nat_lt from pos && lasts_to lasting start pos)
+abbrev pub holds_at : Reuse → ℕ → Option ℕ → ℕ → Bool
+holds_at reuse from start pos = (from == pos) || (nat_lt from pos && lasts_to reuse start pos)

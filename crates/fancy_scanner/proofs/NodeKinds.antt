@@ -13,9 +13,9 @@ use Rattle.fancy_expr.specs.declared.expr.Expr.{Expr}
 use Rattle.fancy_expr.specs.declared.expr.Expr.TheVariants as code
 use Rattle.fancy_expr.proofs.Exprs.{exprs-below, nodes-exprs}
 use Rattle.fancy_expr.proofs.Numbered.{nodes-numbered}
-use Rattle.fancy_scanner.specs.Sought.{is_sought, is_sought_expr}
-use Rattle.fancy_scanner.specs.declared.sought.Sought.{Sought}
-use Rattle.fancy_scanner.specs.declared.sought.Sought.TheVariants as kind
+use Rattle.fancy_scanner.specs.NodeKinds.{is_of_kind, is_of_kind_expr}
+use Rattle.fancy_scanner.specs.declared.node_kind.NodeKind.{NodeKind}
+use Rattle.fancy_scanner.specs.declared.node_kind.NodeKind.TheVariants as kind
 
 -- ---- down a tree
 
@@ -58,7 +58,7 @@ any-map p (x ∷ xs) = ap (λ b. p x || b) (any-map p xs)
 
 -- ---- the tree that an expression stands for
 
-absent_is : (sought : Sought) (a : Absent) → is_sought_expr sought (code.Absent a) ≡ is_sought sought (absent_of a)
+absent_is : (kind : NodeKind) (a : Absent) → is_of_kind_expr kind (code.Absent a) ≡ is_of_kind kind (absent_of a)
 absent_is kind.Continue (code_absent.Repeater' b e) = refl
 absent_is kind.Continue (code_absent.Expression' b a c e) = refl
 absent_is kind.Continue (code_absent.Stopper' b e) = refl
@@ -68,27 +68,27 @@ absent_is kind.KeepOut (code_absent.Expression' b a c e) = refl
 absent_is kind.KeepOut (code_absent.Stopper' b e) = refl
 absent_is kind.KeepOut code_absent.Clear = refl
 
-expr_is : (sought : Sought) (e : Expr) → is_sought_expr sought e ≡ is_sought sought (tree_of e)
-expr_is sought (code.Absent a) = absent_is sought a
+expr_is : (kind : NodeKind) (e : Expr) → is_of_kind_expr kind e ≡ is_of_kind kind (tree_of e)
+expr_is kind (code.Absent a) = absent_is kind a
 expr_is kind.Continue e = refl
 expr_is kind.KeepOut e = refl
 
-any-exprs : (sought : Sought) (es : List Expr) → list_any (is_sought_expr sought) es ≡ list_any (is_sought sought) (map tree_of es)
-any-exprs sought [] = refl
-any-exprs sought (e ∷ es) = ap₂ (λ a b. a || b) (expr_is sought e) (any-exprs sought es)
+any-exprs : (kind : NodeKind) (es : List Expr) → list_any (is_of_kind_expr kind) es ≡ list_any (is_of_kind kind) (map tree_of es)
+any-exprs kind [] = refl
+any-exprs kind (e ∷ es) = ap₂ (λ a b. a || b) (expr_is kind e) (any-exprs kind es)
 
-blind : (sought : Sought) (w : Within) (n : ℕ) (e : Tree) → is_sought sought (numbered_within w n e) ≡ is_sought sought e
+blind : (kind : NodeKind) (w : Within) (n : ℕ) (e : Tree) → is_of_kind kind (numbered_within w n e) ≡ is_of_kind kind e
 blind kind.Continue w n (Assert old a) = refl
 blind kind.Continue w n e = refl
 blind kind.KeepOut w n (Assert old a) = refl
 blind kind.KeepOut w n e = refl
 
-pub any-numbered : (sought : Sought) (first : ℕ) (e : Expr) →
-    list_any (is_sought sought) (nodes (numbered first (tree_of e))) ≡ list_any (is_sought_expr sought) (exprs e)
+pub any-numbered : (kind : NodeKind) (first : ℕ) (e : Expr) →
+    list_any (is_of_kind kind) (nodes (numbered first (tree_of e))) ≡ list_any (is_of_kind_expr kind) (exprs e)
 unfolding numbered
-any-numbered sought first e =
-    any-map (is_sought sought) (nodes (numbered_within NoLook first (tree_of e)))
-    ∙ ap any_true (nodes-numbered (is_sought sought) (blind sought) NoLook first (tree_of e))
-    ∙ sym (any-map (is_sought sought) (nodes (tree_of e)))
-    ∙ sym (ap (list_any (is_sought sought)) (nodes-exprs e))
-    ∙ sym (any-exprs sought (exprs e))
+any-numbered kind first e =
+    any-map (is_of_kind kind) (nodes (numbered_within NoLook first (tree_of e)))
+    ∙ ap any_true (nodes-numbered (is_of_kind kind) (blind kind) NoLook first (tree_of e))
+    ∙ sym (any-map (is_of_kind kind) (nodes (tree_of e)))
+    ∙ sym (ap (list_any (is_of_kind kind)) (nodes-exprs e))
+    ∙ sym (any-exprs kind (exprs e))

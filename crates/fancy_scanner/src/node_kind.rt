@@ -3,14 +3,14 @@
 ghost use Rattle.std.specs.Prelude.{◌≡◌};
 ghost use Rattle.std.specs.List.{list_any};
 ghost use Rattle.fancy_expr.specs.Exprs.{exprs};
-ghost use Rattle.fancy_scanner.specs.Sought.{is_sought_expr};
+ghost use Rattle.fancy_scanner.specs.NodeKinds.{is_of_kind_expr};
 
 use fancy_expr::expr::Expr;
 use fancy_expr::parts::{part, part_count};
 
 /// A kind of node that is looked for.
 #[derive(Clone, Copy)]
-pub(crate) enum Sought {
+pub(crate) enum NodeKind {
     /// A `\G`.
     Continue,
     /// A `\K`.
@@ -18,24 +18,24 @@ pub(crate) enum Sought {
 }
 
 /// The node is of this kind.
-fn is_sought(sought: Sought, expr: &Expr) -> bool
-    ensures { result ≡ is_sought_expr sought expr.now }
+fn is_of_kind(kind: NodeKind, expr: &Expr) -> bool
+    ensures { result ≡ is_of_kind_expr kind expr.now }
 {
-    match sought {
-        Sought::Continue => matches!(expr, Expr::ContinueFromPreviousMatchEnd),
-        Sought::KeepOut => matches!(expr, Expr::KeepOut),
+    match kind {
+        NodeKind::Continue => matches!(expr, Expr::ContinueFromPreviousMatchEnd),
+        NodeKind::KeepOut => matches!(expr, Expr::KeepOut),
     }
 }
 
 /// The node, or one below it, is of this kind.
-pub(crate) fn has_sought(sought: Sought, expr: &Expr) -> bool
-    ensures { result ≡ list_any (is_sought_expr sought) (exprs expr.now) }
+pub(crate) fn has_kind(kind: NodeKind, expr: &Expr) -> bool
+    ensures { result ≡ list_any (is_of_kind_expr kind) (exprs expr.now) }
 {
-    if is_sought(sought, expr) {
+    if is_of_kind(kind, expr) {
         return true;
     }
     for i in 0..part_count(expr) {
-        if has_sought(sought, part(expr, i)) {
+        if has_kind(kind, part(expr, i)) {
             return true;
         }
     }
