@@ -124,16 +124,41 @@ fn ascii_count(bytes: &[bool; 256]) -> usize {
     count
 }
 
-/// They hold no space and no small letter that many words have.
+/// It is a space, or a small letter that many words have.
+fn is_frequent(byte: u8) -> bool {
+    matches!(byte, b' ' | b'a'..=b'i' | b'k'..=b'p' | b'r'..=b'w' | b'y')
+}
+
+/// None of them is frequent.
 fn are_rare(bytes: &[bool; 256]) -> bool {
     for byte in 0..128u8 {
-        if bytes[byte as usize]
-            && matches!(byte, b' ' | b'a'..=b'i' | b'k'..=b'p' | b'r'..=b'w' | b'y')
-        {
+        if bytes[byte as usize] && is_frequent(byte) {
             return false;
         }
     }
     true
+}
+
+/// The literal takes a frequent character, by its text.
+fn is_frequent_literal(character: char, casei: bool) -> bool {
+    if !character.is_ascii() {
+        return false;
+    }
+    let byte = character as u8;
+    is_frequent(if casei {
+        byte.to_ascii_lowercase()
+    } else {
+        byte
+    })
+}
+
+/// The class holds frequent characters, as far as its text tells: it is negated, or an escape but `\d`.
+fn is_frequent_class(text: &str) -> bool {
+    match text.as_bytes() {
+        [b'\\', letter] => *letter != b'd',
+        [b'[', b'^', ..] => true,
+        _ => false,
+    }
 }
 
 /// The bytes with which the characters begin that the node takes, where it takes one and they are rare.
@@ -148,13 +173,15 @@ fn bytes_of_character(
 {
     let bytes = match expr {
         Expr::Literal { val, casei } => match val.chars().next() {
-            Some(c) => literal_bytes(c, *casei, unicode),
-            None => return Ok(None),
+            Some(c) if !is_frequent_literal(c, *casei) => literal_bytes(c, *casei, unicode),
+            _ => return Ok(None),
         },
-        Expr::Delegate { inner, casei } => match class_ranges(alloc, inner, *casei, unicode)? {
-            Some(class) => class_bytes(&class),
-            None => return Ok(None),
-        },
+        Expr::Delegate { inner, casei } if !is_frequent_class(inner) => {
+            match class_ranges(alloc, inner, *casei, unicode)? {
+                Some(class) => class_bytes(&class),
+                None => return Ok(None),
+            }
+        }
         _ => return Ok(None),
     };
     if are_rare(&bytes) {
