@@ -1,5 +1,5 @@
 -- An engine finds the answer of a search for the tree that it was made of.
-use Rattle.std.proofs.Common.{◌≡◌, ℕ, ◌*◌, ◌-◌, Bool, true, false, List, length, IfOk, IfSome, Option, Some, None, Result, Ok, Err, if◌then◌else◌, is_some, option_map, refl, sym, ap, ◌∙◌, subst, arith}
+use Rattle.std.proofs.Common.{◌≡◌, Box, map, slice_get, ℕ, ◌*◌, ◌-◌, Bool, true, false, List, [], ◌∷◌, length, IfOk, IfSome, Option, Some, None, Result, Ok, Err, if◌then◌else◌, is_some, option_map, refl, sym, ap, ◌∙◌, subst, arith}
 use Rattle.std.proofs.Math.Logic.{∥∥₁_elim}
 use Rattle.std.proofs.Props.{props}
 use Rattle.std.specs.declared.alloc.AllocError.{AllocError}
@@ -21,6 +21,7 @@ use Rattle.fancy_meaning.specs.Tree.{Tree}
 use Rattle.fancy_agreement.specs.Captures.{numbers_of}
 use Rattle.fancy_expr.specs.Views.{tree_of}
 use Rattle.fancy_expr.specs.declared.error.Error.{Error}
+use Rattle.fancy_expr.specs.declared.expr.Expr.{Expr}
 use Rattle.fancy_hybrid.specs.Engines.{Searches}
 use Rattle.fancy_hybrid.specs.Patterns.{IsEngineOf, IsSearchFor, told}
 use Rattle.fancy_hybrid.specs.Translations.{IsTranslated}
@@ -36,6 +37,7 @@ use Rattle.fancy_steps.specs.Tasks.{options_of, task_of}
 use Rattle.fancy_steps.specs.declared.search_limits.SearchLimit.{SearchLimit}
 use Rattle.fancy_steps.specs.declared.options.RunOptions.{RunOptions}
 use Rattle.fancy_vm.specs.Means.{IsMeaning, IsMeaningPair, numbers_of as numbers_in}
+use Rattle.fancy_search.specs.Copies.{trees_in}
 use Rattle.fancy_search.specs.Scratches.{IsGearOf}
 use Rattle.fancy_search.specs.Searches.{IsCompiledFrom, IsCopied, program}
 use Rattle.fancy_search.specs.declared.common.Common.{Common}
@@ -61,9 +63,8 @@ pub record ArePlain (o : plain.RunOptions) : Type 0 where
   pub first_way : o.leftmost_longest ≡ false
 
 module _ (i : Input) (c : Common) (copied : IsCopied i c) where
-  pub engine_copied : (engine : Engine) → IsEngineOf c.unicode (tree_of c.expr) engine → IsEngineOf (i.options).unicode (i.parsed).tree engine
-  engine_copied engine of =
-      subst (λ u. IsEngineOf u (i.parsed).tree engine) copied.unicode (subst (λ e. IsEngineOf c.unicode e engine) copied.tree of)
+  pub engine_copied : (engine : Engine) → IsEngineOf c.unicode (i.parsed).tree engine → IsEngineOf (i.options).unicode (i.parsed).tree engine
+  engine_copied engine of = subst (λ u. IsEngineOf u (i.parsed).tree engine) copied.unicode of
 
   pub search_for : (text : List ℕ) (o : plain.RunOptions) → ArePlain o → IsSearchFor (i.parsed).tree text o.pos (search_of (plan i) text o)
   search_for text o plain = record {
@@ -90,12 +91,19 @@ module _ (i : Input) (c : Common) (copied : IsCopied i c) where
       pairs_of n None = refl
       pairs_of n (Some m) = refl
 
-pub engines_of : (u : Bool) (e : Tree) (t : Translated) → IsTranslated u 1 e t → (made : Result (Option Engine) AllocError) →
-    IfOk made (λ o. IfSome o (λ engine. Searches (meaning t.hir) engine × (length engine.cells.items ≡ 2 * (t.next - 1)))) →
-    IfOk made (λ o. IfSome o (IsEngineOf u e))
-engines_of u e t translated (Ok None) h = tt
-engines_of u e t translated (Ok (Some engine)) h = engine_of u e t translated engine h.0 h.1
-engines_of u e t translated (Err error) h = tt
+pub engines_of : (u : Bool) (e : Tree) (t : Translated) → IsTranslated u 1 e t → (made : Option Engine) →
+    IfSome made (λ engine. Searches (meaning t.hir) engine × (length engine.cells.items ≡ 2 * (t.next - 1))) →
+    (boxed : Result (Option (Box Engine Global)) AllocError) → IfOk boxed (λ o. option_map (λ b. b.value) o ≡ made) →
+    IfOk boxed (λ o. IfSome o (λ b. IsEngineOf u e b.value))
+engines_of u e t translated made h (Ok None) is = tt
+engines_of u e t translated made h (Ok (Some b)) is =
+    let found = subst (λ o. IfSome o (λ engine. Searches (meaning t.hir) engine × (length engine.cells.items ≡ 2 * (t.next - 1)))) (sym is) h in
+    engine_of u e t translated b.value found.0 found.1
+engines_of u e t translated made h (Err error) is = tt
+
+pub first_tree : (exprs : List Expr) (e : Expr) (tree : Tree) → slice_get exprs 0 ≡ Some e → map tree_of exprs ≡ tree ∷ [] → tree_of e ≡ tree
+first_tree [] e tree there is = cc
+first_tree (x ∷ xs) e tree there is = cc
 
 -- ---- engines of what was compiled
 
@@ -114,10 +122,13 @@ gear_kept compiled old new keeps is i from = ∥∥₁_elim (is i from) (Prim.hl
 copied_in : (i : Input) (compiled : Compiled) (c : Common) → IsCompiledFrom i compiled → compiled.common ≡ Some c → IsCopied i c
 copied_in i compiled c from is = subst (λ o. IfSome o (IsCopied i)) is from.common
 
-pub gear_made : (compiled : Compiled) (c : Common) → compiled.common ≡ Some c → (made : Option Engine) →
-    IfSome made (IsEngineOf c.unicode (tree_of c.expr)) → IfSome made (IsGearOf compiled)
+pub gear_made : (compiled : Compiled) (c : Common) → compiled.common ≡ Some c → (made : Option (Box Engine Global)) →
+    ((tree : Tree) → trees_in c ≡ tree ∷ [] → IfSome made (λ engine. IsEngineOf c.unicode tree engine.value)) →
+    IfSome made (λ engine. IsGearOf compiled engine.value)
 gear_made compiled c is None h = tt
-gear_made compiled c is (Some engine) h = λ i from. ∣ engine_copied i c (copied_in i compiled c from is) engine h ∣₁
+gear_made compiled c is (Some engine) h = λ i from.
+    let copied = copied_in i compiled c from is in
+    ∣ engine_copied i c copied engine.value (h (i.parsed).tree copied.tree) ∣₁
 
 -- what an engine tells is the answer
 common_there : (o : Option Common) → is_some o ≡ true → (c : Common) × (o ≡ Some c)

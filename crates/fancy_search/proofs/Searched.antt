@@ -1,5 +1,5 @@
 -- A search by the engine's calls answers as is promised.
-use Rattle.std.proofs.Common.{◌≡◌, ℕ, Bool, true, false, not, ◌&&◌, ◌||◌, List, length, Option, Some, None, Result, Ok, Err, refl, sym, ap, ◌∙◌, subst, le-leb, arith}
+use Rattle.std.proofs.Common.{[], ◌∷◌, ◌≡◌, ℕ, Bool, true, false, not, ◌&&◌, ◌||◌, List, length, Option, Some, None, Result, Ok, Err, refl, sym, ap, ◌∙◌, subst, le-leb, arith}
 use Rattle.std.specs.Prelude.{IfOk, IfSome, IsUtf8}
 use Rattle.std.specs.declared.vec.Vec.{Vec}
 use Rattle.std.specs.declared.alloc.Global.{Global}
@@ -100,7 +100,7 @@ module _ (t : ExprTree) (context : AnalyzeContext) (o : CompileOptions) (ok : Is
       IfSome common (IsCopied input)
   copied i h None is = tt
   copied i h (Some common) is = record {
-    tree = is.tree ∙ ap tree_of h.expr;
+    tree = is.tree ∙ ap (λ e. tree_of e ∷ []) h.expr;
     unicode = is.unicode;
     any_start = is.any_start;
     any_end = is.any_end;

@@ -6,7 +6,7 @@ use Rattle.regex_dfa.proofs.forward.Forward.TheSendSync as forward
 use Rattle.regex_dfa.proofs.reverse.Reverse.TheSendSync as reverse
 use Rattle.regex_literal.proofs.byte_set.ByteSet.TheSendSync as byte_set
 use Rattle.regex_tagged.proofs.search.Tagged.TheSendSync as tagged
-use Rattle.fancy_expr.proofs.expr.Absent.TheLaws.TheKnot as expr
+use Rattle.fancy_fragments.proofs.ThreadsLaws.{delegate_sends, delegate_syncs}
 use Rattle.fancy_hybrid.specs.contracts.engine.Engine as Engine
 use Rattle.fancy_program.proofs.ThreadsLaws.{prog_sends, prog_syncs}
 use Rattle.fancy_vm.proofs.ThreadsLaws as runs
@@ -16,10 +16,10 @@ use Rattle.fancy_search.specs.contracts.search.Compiled as Compiled
 
 -- each type in turn, since a `search` through all of them at once runs out of steps
 common_sends : IsSend Common.the_field.row
-common_sends = search (std.crosses, expr.crosses, sendable) depth 60 fits 20000
+common_sends = search (delegate_sends, delegate_syncs, std.crosses, sendable) depth 60 fits 20000
 
 common_syncs : IsSync Common.the_field.row
-common_syncs = search (std.crosses, expr.crosses, sendable) depth 60 fits 20000
+common_syncs = search (delegate_sends, delegate_syncs, std.crosses, sendable) depth 60 fits 20000
 
 pub compiled_sends : IsSend Compiled.the_field.row
 compiled_sends = search (prog_sends, common_sends, std.crosses, sendable) depth 60 fits 20000

@@ -32,4 +32,4 @@ IsGearOf compiled engine = (i : Input) → IsCompiledFrom i compiled → ∥ IsE
 
 -- its engine, if it holds one, does
 abbrev pub Suits : Compiled → Scratch → Type 0
-Suits compiled s = IfSome s.engine (IsGearOf compiled)
+Suits compiled s = IfSome s.engine (λ engine. IsGearOf compiled engine.value)

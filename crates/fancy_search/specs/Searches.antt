@@ -1,5 +1,5 @@
 -- The promise filled in for a search of the code: its input, its program, its reply, and what it was compiled from.
-use Rattle.std.specs.Prelude.{◌≡◌, ◌≤◌, ℕ, Bool, true, false, ◌&&◌, ◌||◌, not, IfSome, List, Option, option_map, length, Result, Ok, Err}
+use Rattle.std.specs.Prelude.{◌≡◌, ◌≤◌, [], ◌∷◌, ℕ, Bool, true, false, ◌&&◌, ◌||◌, not, IfSome, List, Option, option_map, length, Result, Ok, Err}
 use Rattle.std.specs.declared.vec.Vec.{Vec}
 use Rattle.std.specs.declared.alloc.Global.{Global}
 use Rattle.fancy_meaning.specs.Answer.{answer, search_of}
@@ -32,6 +32,7 @@ use Rattle.fancy_compile.specs.declared.options.CompileOptions.{CompileOptions}
 use Rattle.fancy_compile.specs.Compiled.{compile_options_of, IsNestedOver as plan_nests_over}
 use Rattle.fancy_expr.specs.Errors.{error_of}
 use Rattle.fancy_search.specs.Needs.{IsNeededIn}
+use Rattle.fancy_search.specs.Copies.{trees_in}
 use Rattle.fancy_search.specs.declared.common.Common.{Common}
 use Rattle.fancy_search.specs.declared.search.Compiled.{Compiled}
 use Rattle.fancy_search.specs.declared.search.SearchOptions.{SearchOptions}
@@ -122,7 +123,7 @@ module _ (i : Input) where
 
   -- It is the tree, and searches for it are for the first match at any start.
   pub record IsCopied (c : Common) : Type 0 where
-    pub tree : tree_of c.expr ≡ (i.parsed).tree
+    pub tree : trees_in c ≡ (i.parsed).tree ∷ []
     pub unicode : c.unicode ≡ (i.options).unicode
     pub any_start : (i.options).anchored ≡ false
     pub any_end : (i.options).end_text ≡ false

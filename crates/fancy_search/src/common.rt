@@ -1,21 +1,22 @@
 //! Trees that an engine may search for.
 
-ghost use Rattle.std.specs.Prelude.{◌≡◌, IfOk, IfSome};
-ghost use Rattle.fancy_expr.specs.Views.{tree_of};
+ghost use Rattle.std.specs.Prelude.{◌≡◌, [], ◌∷◌, IfOk, IfSome, option_map};
+ghost use Rattle.fancy_meaning.specs.Tree.{Tree};
 ghost use Rattle.fancy_hybrid.specs.Patterns.{IsEngineOf};
 ghost use Rattle.fancy_search.specs.Copies.{IsCopyOf};
 
 use fancy_compile::compile::CompileOptions;
-use fancy_expr::expr::Expr;
-use fancy_fragments::copies::copy_of;
+use fancy_fragments::delegate::Delegate;
 use fancy_hybrid::engine::Engine;
 use fancy_hybrid::translate::Translator;
 use fancy_info::info::Info;
+use fancy_program::insn::Insn;
 use std::alloc::{AllocError, Global};
+use std::sync::Arc;
 
-/// A copy of a tree that an engine may search for.
+/// A tree that an engine may search for, as the delegate of its program has it.
 pub struct Common {
-    expr: Expr,
+    delegate: Arc<Delegate>,
     unicode: bool,
 }
 
@@ -23,31 +24,50 @@ pub struct Common {
 impl Drop for Common {
     fn drop(self) {
         let Common {
-            expr: _,
+            delegate: _,
             unicode: _,
         } = self;
     }
 }
 
 impl Common {
+    ghost use Rattle.fancy_search.specs.Copies.{trees_in};
+
     /// An engine for the tree, if the kit has a pattern that means the same.
-    pub(crate) fn engine(&self, alloc: Global) -> Result<Option<Engine>, AllocError>
-        ensures { IfOk result (λ made. IfSome made (IsEngineOf self.now.unicode (tree_of self.now.expr))) }
+    pub(crate) fn engine(&self, alloc: Global) -> Result<Option<Box<Engine>>, AllocError>
+        ensures { (tree : Tree)
+            → trees_in self.now ≡ tree ∷ []
+            → IfOk result (λ made. IfSome made
+            (λ engine. IsEngineOf self.now.unicode tree engine.value)) }
     {
         let translator = Translator {
             alloc,
             unicode: self.unicode,
         };
-        match translator.node(1, &self.expr)? {
-            Some(it) => Engine::new(alloc, &it.hir, it.next),
-            None => Ok(None),
-        }
+        let Some(expr) = self.delegate.fragment().exprs().first() else {
+            return Ok(None);
+        };
+        let Some(it) = translator.node(1, expr)? else {
+            return Ok(None);
+        };
+        let made = Engine::new(alloc, &it.hir, it.next)?;
+        boxed(alloc, made)
     }
 }
 
-/// A copy of the tree, if it is easy and its searches are for the first match at any start.
+/// The engine in a box, since it is large and most scratches have none.
+fn boxed(alloc: Global, engine: Option<Engine>) -> Result<Option<Box<Engine>>, AllocError>
+    ensures { IfOk result (λ boxed. option_map (λ b. b.value) boxed ≡ engine) }
+{
+    match engine {
+        Some(engine) => Ok(Some(Box::new(alloc, engine)?)),
+        None => Ok(None),
+    }
+}
+
+/// The tree, if its program is one delegate and its searches are for the first match at any start.
 pub(crate) fn common_of(
-    alloc: Global,
+    body: &[Insn],
     info: &Info<'_>,
     options: CompileOptions,
 ) -> Result<Option<Common>, AllocError>
@@ -60,8 +80,14 @@ pub(crate) fn common_of(
     {
         return Ok(None);
     }
+    let Some(Insn::Delegate(delegate)) = body.get(4) else {
+        return Ok(None);
+    };
+    if !delegate.fragment().is_of_expr(info.expr()) {
+        return Ok(None);
+    }
     Ok(Some(Common {
-        expr: copy_of(alloc, info.expr())?,
+        delegate: Arc::try_clone(delegate)?,
         unicode: options.unicode,
     }))
 }

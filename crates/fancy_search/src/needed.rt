@@ -73,16 +73,18 @@ fn needed_by_side(
     }))
 }
 
-/// What each match of the tree takes, if it is known: at best what does not stand before a search begins.
+/// What each match of the tree takes, if it is known: at best what does not stand before a search begins. In a tree that is
+/// not hard no match takes something by a look-behind.
 pub(crate) fn needed_by(
     alloc: Global,
     expr: &Expr,
     unicode: bool,
+    is_hard: bool,
 ) -> Result<Option<Needed>, AllocError>
     ensures { IfOk result (λ found. IfSome found (IsNeededBy unicode (tree_of expr.now))) }
 {
     match needed_by_side(alloc, expr, unicode, false)? {
-        Some(needed) => Ok(Some(needed)),
-        None => needed_by_side(alloc, expr, unicode, true),
+        None if is_hard => needed_by_side(alloc, expr, unicode, true),
+        needed => Ok(needed),
     }
 }

@@ -27,7 +27,7 @@ const SEARCH: usize = 40;
 /// of runs. By the kit's budgets their tables have up to 8 MiB each, which no limit counts.
 pub struct Scratch {
     pub(crate) runs: runs::Scratch,
-    pub(crate) engine: Option<Engine>,
+    pub(crate) engine: Option<Box<Engine>>,
     /// What runs cost beyond an engine's searches, in bytes that an engine reads.
     excess: usize,
     /// What failed attempts had cost when this was last counted.

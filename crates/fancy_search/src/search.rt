@@ -141,8 +141,8 @@ impl Compiled {
         let info = analyze(alloc, tree, context)?;
         let min_size = info.min_size();
         let prog = compile(alloc, &info, options)?;
-        let common = common_of(alloc, &info, options)?;
-        let needed = needed_by(alloc, &tree.expr, options.unicode)?;
+        let common = common_of(prog.body(), &info, options)?;
+        let needed = needed_by(alloc, &tree.expr, options.unicode, info.hard())?;
         Ok(Compiled {
             prog,
             min_size,
@@ -319,6 +319,10 @@ impl Compiled {
     }
 
     /// As `search`, with the first pair of its numbers for an answer: start and end of the match in bytes.
+    ///
+    /// # Errors
+    ///
+    /// Those of `search`.
     pub fn find(
         &self,
         alloc: Global,
