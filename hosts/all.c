@@ -25,10 +25,10 @@ int main(int argc, char **argv)
     struct fancy_outcome outcome = fancy_compile_pattern(argv[1], strlen(argv[1]), &options, &program);
     if (outcome.code != FANCY_OK)
         return print_failure(outcome);
-    struct fancy_standing standing = FANCY_FIRST;
+    struct fancy_cursor cursor = FANCY_FIRST;
     size_t spans[2 * ROOM];
     do {
-        outcome = fancy_find_all(&program, argv[2], strlen(argv[2]), &options, &standing,
+        outcome = fancy_find_all(&program, argv[2], strlen(argv[2]), &options, &cursor,
                                  spans, 2 * ROOM);
         for (size_t i = 0; i < outcome.count; i++)
             printf("%zu %zu\n", spans[2 * i], spans[2 * i + 1]);

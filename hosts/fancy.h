@@ -198,7 +198,7 @@ struct fancy_outcome {
 };
 
 /* How far a list of all matches has come. Begin with FANCY_FIRST, or with another pos, a byte of the text. */
-struct fancy_standing {
+struct fancy_cursor {
     size_t pos;    /* where the next search begins; after the end of the text once the list has ended */
     size_t last;   /* where the last match ended */
     bool has_last; /* whether there was one */
@@ -285,7 +285,7 @@ struct fancy_outcome fancy_find(struct fancy_program *program, const char *text,
                                 const struct fancy_options *options, size_t *spans, size_t spans_length);
 
 /* Finds the next matches of a list. Start and end of each are written to spans while there is room, and count says how many
- * matches that are, whatever the code is. standing moves after them, so the same call again goes on:
+ * matches that are, whatever the code is. cursor moves after them, so the same call again goes on:
  *
  *   FANCY_OK        there was no room for one more
  *   FANCY_NO_MATCH  the list has ended
@@ -295,13 +295,13 @@ struct fancy_outcome fancy_find(struct fancy_program *program, const char *text,
  * directly after another match is left out, and so is a match that begins before its search. pos and not_continued of the
  * options have no effect. */
 struct fancy_outcome fancy_find_all(struct fancy_program *program, const char *text, size_t text_length,
-                                    const struct fancy_options *options, struct fancy_standing *standing, size_t *spans,
+                                    const struct fancy_options *options, struct fancy_cursor *cursor, size_t *spans,
                                     size_t spans_length);
 
 /* The same with groups: of each match start and end of each group from 0 up are written, 2 * fancy_group_count(program)
  * numbers, and FANCY_UNSET twice for a group that is not set. count says how many matches that are. */
 struct fancy_outcome fancy_captures_all(struct fancy_program *program, const char *text, size_t text_length,
-                                        const struct fancy_options *options, struct fancy_standing *standing,
+                                        const struct fancy_options *options, struct fancy_cursor *cursor,
                                         size_t *spans, size_t spans_length);
 
 /* ---- many patterns
@@ -429,10 +429,10 @@ static inline size_t *fancy_numbers(size_t *numbers)
 #define fancy_is_match(program, text, length, options) fancy_is_match(program, fancy_from(text), length, options)
 #define fancy_find(program, text, length, options, spans, spans_length) \
     fancy_find(program, fancy_from(text), length, options, fancy_numbers(spans), spans_length)
-#define fancy_find_all(program, text, length, options, standing, spans, spans_length) \
-    fancy_find_all(program, fancy_from(text), length, options, standing, fancy_numbers(spans), spans_length)
-#define fancy_captures_all(program, text, length, options, standing, spans, spans_length) \
-    fancy_captures_all(program, fancy_from(text), length, options, standing, fancy_numbers(spans), spans_length)
+#define fancy_find_all(program, text, length, options, cursor, spans, spans_length) \
+    fancy_find_all(program, fancy_from(text), length, options, cursor, fancy_numbers(spans), spans_length)
+#define fancy_captures_all(program, text, length, options, cursor, spans, spans_length) \
+    fancy_captures_all(program, fancy_from(text), length, options, cursor, fancy_numbers(spans), spans_length)
 #define fancy_scanner_add(scanner, pattern, length, options) \
     fancy_scanner_add(scanner, fancy_from(pattern), length, options)
 #define fancy_scan(scanner, text, length, options, pos, groups, rows, rows_length) \

@@ -246,7 +246,7 @@ class matches {
     regex *pattern_;
     std::string_view text_;
     options how_;
-    fancy_standing standing_ = FANCY_FIRST;
+    fancy_cursor cursor_ = FANCY_FIRST;
     detail::rows rows_;
 };
 
@@ -418,7 +418,7 @@ inline matches::matches(regex &pattern, std::string_view text)
 inline bool matches::next(match &found)
 {
     const std::size_t *row = rows_.next([this](std::size_t *numbers, std::size_t length) {
-        const fancy_outcome outcome = fancy_captures_all(&pattern_->program_, text_.data(), text_.size(), &how_, &standing_,
+        const fancy_outcome outcome = fancy_captures_all(&pattern_->program_, text_.data(), text_.size(), &how_, &cursor_,
                                                          numbers, length);
         /* the call has checked the text, so that those after it need not */
         how_.text_is_utf8 = how_.text_is_utf8 || outcome.count != 0;

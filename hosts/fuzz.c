@@ -43,12 +43,12 @@ static void check_spans(const char *text, size_t length, const size_t *spans, si
 static size_t list(struct fancy_program *program, const char *text, size_t length, const struct fancy_options *options,
                    size_t room, size_t *spans, uint32_t *code)
 {
-    struct fancy_standing standing = FANCY_FIRST;
+    struct fancy_cursor cursor = FANCY_FIRST;
     size_t written = 0;
     do {
         size_t most = room < ROOM - written ? room : ROOM - written;
         struct fancy_outcome found =
-            fancy_find_all(program, text, length, options, &standing, spans + written, most);
+            fancy_find_all(program, text, length, options, &cursor, spans + written, most);
         want(2 * found.count <= most, "a list is longer than its room");
         written += 2 * found.count;
         *code = found.code;
@@ -60,13 +60,13 @@ static size_t list(struct fancy_program *program, const char *text, size_t lengt
 static void list_with_groups(struct fancy_program *program, const char *text, size_t length,
                              const struct fancy_options *options, const size_t *spans, size_t count, uint32_t ends)
 {
-    struct fancy_standing standing = FANCY_FIRST;
+    struct fancy_cursor cursor = FANCY_FIRST;
     size_t width = 2 * fancy_group_count(program), numbers[4 * ROOM], at = 0, rows = 0;
     if (width > 2 * ROOM)
         return;
     struct fancy_outcome found;
     do {
-        found = fancy_captures_all(program, text, length, options, &standing, numbers, 4 * ROOM);
+        found = fancy_captures_all(program, text, length, options, &cursor, numbers, 4 * ROOM);
         for (size_t row = 0; row < found.count && at < count; row++, at += 2) {
             want(memcmp(numbers + row * width, spans + at, 2 * sizeof *spans) == 0, "a list with groups has other matches");
             check_spans(text, length, numbers + row * width, width / 2);

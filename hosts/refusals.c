@@ -7,7 +7,7 @@
 
 static struct fancy_program program = FANCY_NOTHING;
 static struct fancy_options options;
-static struct fancy_standing standing = FANCY_FIRST;
+static struct fancy_cursor cursor = FANCY_FIRST;
 static size_t spans[2];
 
 static void print_outcome(const char *what, struct fancy_outcome outcome)
@@ -45,18 +45,18 @@ static void is_match(const char *what, const char *text)
 
 static void find_all(const char *what, const char *text, size_t room)
 {
-    struct fancy_outcome outcome = fancy_find_all(&program, text, strlen(text), &options, &standing,
+    struct fancy_outcome outcome = fancy_find_all(&program, text, strlen(text), &options, &cursor,
                                                   spans, room);
     print_outcome(what, outcome);
-    printf("%zu written, then from %zu\n", outcome.count, standing.pos);
+    printf("%zu written, then from %zu\n", outcome.count, cursor.pos);
 }
 
 static void captures_all(const char *what, const char *text, size_t *numbers, size_t room)
 {
-    struct fancy_outcome outcome = fancy_captures_all(&program, text, strlen(text), &options, &standing,
+    struct fancy_outcome outcome = fancy_captures_all(&program, text, strlen(text), &options, &cursor,
                                                       numbers, room);
     print_outcome(what, outcome);
-    printf("%zu written, then from %zu:", outcome.count, standing.pos);
+    printf("%zu written, then from %zu:", outcome.count, cursor.pos);
     for (size_t i = 0; i < 2 * fancy_group_count(&program) * outcome.count; i++)
         printf(numbers[i] == FANCY_UNSET ? " -" : " %zu", numbers[i]);
     putchar('\n');
@@ -66,8 +66,8 @@ static void captures_all(const char *what, const char *text, size_t *numbers, si
 static void list_groups(void)
 {
     size_t numbers[14];
-    struct fancy_standing first = FANCY_FIRST;
-    standing = first;
+    struct fancy_cursor first = FANCY_FIRST;
+    cursor = first;
     captures_all("all groups without a pattern", "a", numbers, 14);
     compile_pattern("two groups, of which one is set", "(a)|(b)");
     captures_all("no room for the groups of a match", "abab", numbers, 5);
@@ -78,12 +78,12 @@ static void list_groups(void)
     options = fancy_default_options();
     captures_all("the rest", "abab", numbers, 14);
     captures_all("after the end", "abab", numbers, 14);
-    standing = first;
+    cursor = first;
     captures_all("all groups of a text that is no UTF-8", "ab\xff", numbers, 14);
     options.step_limit = 0;
     captures_all("all groups within no step", "ab", numbers, 14);
     options = fancy_default_options();
-    printf("%zu matches, no room at all\n", fancy_captures_all(&program, "ab", 2, &options, &standing, NULL, 0).count);
+    printf("%zu matches, no room at all\n", fancy_captures_all(&program, "ab", 2, &options, &cursor, NULL, 0).count);
     fancy_free(&program);
 }
 
@@ -398,14 +398,14 @@ static const char *const CHOICES = "(?:a|ab)(?:c|bcd)";
 static void pass_limits(void)
 {
     size_t numbers[14];
-    struct fancy_standing first = FANCY_FIRST;
+    struct fancy_cursor first = FANCY_FIRST;
     options = fancy_default_options();
     printf("%llu visits, %zu bytes\n", (unsigned long long)options.visit_limit, options.memory_limit);
     compile_pattern("a pattern with choices", CHOICES);
     options.visit_limit = 1;
     find("more than one visit", "xabcd");
     is_match("whether there is a match, within one visit", "xabcd");
-    standing = first;
+    cursor = first;
     find_all("all matches within one visit", "xabcd", 2);
     captures_all("all groups within one visit", "xabcd", numbers, 14);
     compile_pattern("choices in the text of the replacements", "(?:b|b=)(?:2|=22)");

@@ -100,14 +100,14 @@ static void write_matches(struct fancy_program *program, const struct row *row, 
 /* The same by fancy_captures_all, with room for two matches. */
 static void write_list(struct fancy_program *program, const struct row *row, char *line)
 {
-    struct fancy_standing standing = FANCY_FIRST;
+    struct fancy_cursor cursor = FANCY_FIRST;
     struct fancy_outcome outcome;
     size_t groups = fancy_group_count(program);
     size_t *spans = __real_malloc(4 * groups * sizeof *spans);
     char *start = line;
     do {
         is_counted = true;
-        outcome = fancy_captures_all(program, row->text, row->text_length, &row->options, &standing, spans, 4 * groups);
+        outcome = fancy_captures_all(program, row->text, row->text_length, &row->options, &cursor, spans, 4 * groups);
         is_counted = false;
         for (size_t i = 0; i < outcome.count; i++)
             line = write_match(spans + 2 * groups * i, groups, line + sprintf(line, line == start ? "" : ", "));

@@ -35,11 +35,11 @@ static void *count_matches(void *given)
 {
     struct task *task = given;
     struct fancy_options options = fancy_default_options();
-    struct fancy_standing standing = FANCY_FIRST;
+    struct fancy_cursor cursor = FANCY_FIRST;
     struct fancy_outcome outcome;
     size_t spans[16];
     do {
-        outcome = fancy_find_all(&task->program, task->text, task->length, &options, &standing, spans, 16);
+        outcome = fancy_find_all(&task->program, task->text, task->length, &options, &cursor, spans, 16);
         task->found += outcome.count;
     } while (outcome.code == FANCY_OK);
     fancy_free(&task->program);

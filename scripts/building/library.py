@@ -23,7 +23,7 @@ GIVEN = {
     "&FancyProgram": "&program",
     "&mut FancyProgram": "&mut program",
     "&FancyOutcome": "&outcome",
-    "&mut FancyStanding": "&mut standing",
+    "&mut FancyCursor": "&mut cursor",
     "&FancyScanner": "&scanner",
     "&mut FancyScanner": "&mut scanner",
     "&mut usize": "&mut pos",
@@ -39,7 +39,7 @@ pub fn call_all(alloc: Global) {
     let mut copy = FancyProgram::empty(alloc);
     let mut text = [0u8; 8];
     let mut spans = [0usize; 8];
-    let mut standing = FancyStanding { pos: 0, last: 0, has_last: false };
+    let mut cursor = FancyCursor { pos: 0, last: 0, has_last: false };
     let mut scanner = FancyScanner::empty(alloc);
     let mut pos = 0;
     let outcome = fancy_is_match(alloc, &mut program, "a".as_bytes(), &options);

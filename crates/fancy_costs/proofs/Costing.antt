@@ -31,7 +31,7 @@ use Rattle.fancy_starts.proofs.Matches.{answer_is, begins, numbers_begin, number
 use Rattle.fancy_bounds.specs.StartsBegun.{begun, up_to}
 use Rattle.fancy_bounds.specs.Successive.{AreFurtherOn, AreSuccessive}
 use Rattle.fancy_bounds.proofs.Successive.{starts_further_on, starts_of_successive}
-use Rattle.fancy_matches.specs.Listing.{Standing, after, all_matches, at_start, found_at, further, left, listed_one, next_pos}
+use Rattle.fancy_matches.specs.Listing.{Cursor, after, all_matches, at_start, found_at, further, left, listed_one, next_pos}
 use Rattle.fancy_matches.proofs.Lists.{ended_at, ends_before_next, found_tells, further_on, goes_on, left_none, left_some, no_place_ends}
 use Rattle.fancy_costs.specs.Costs.{all_searches, enough, listed_among, places_of, search_at, searches}
 use Rattle.fancy_costs.proofs.EasyStarts.{easy_keeps}
@@ -74,40 +74,40 @@ tried_before q m at e =
 
 -- ---- where the next search begins
 
-past_start : (text : List ℕ) (s : Standing) (start end : ℕ) → start ≤ end → start < next_pos text s (start, end)
+past_start : (text : List ℕ) (s : Cursor) (start end : ℕ) → start ≤ end → start < next_pos text s (start, end)
 past_start text s start end le =
     cond_both (nat_lt (max s.pos start) end) end (further text end) (λ i. start < i)
     (λ e. grind (arith, nat_tests)) (λ e. let f = further_on text end in omega (arith, f, le))
 
 module _ (p : Plan) (text : List ℕ) (o : RunOptions) (is : IsText text) where
   -- those after the search from here
-  abbrev rest : ℕ → Standing → List Search
+  abbrev rest : ℕ → Cursor → List Search
   rest n s = option_map_or (λ m. searches p text o n (after text s (first_pair m))) (found_at p text o s) []
 
-  searches_at : (n : ℕ) (s : Standing) → is_place text s.pos ≡ true → searches p text o (suc n) s ≡ search_at p text o s ∷ rest n s
+  searches_at : (n : ℕ) (s : Cursor) → is_place text s.pos ≡ true → searches p text o (suc n) s ≡ search_at p text o s ∷ rest n s
   unfolding searches
   searches_at n s at = ap (λ b. if b then search_at p text o s ∷ rest n s else []) at
 
-  searches_past : (n : ℕ) (s : Standing) → is_place text s.pos ≡ false → searches p text o (suc n) s ≡ []
+  searches_past : (n : ℕ) (s : Cursor) → is_place text s.pos ≡ false → searches p text o (suc n) s ≡ []
   unfolding searches
   searches_past n s past = ap (λ b. if b then search_at p text o s ∷ rest n s else []) past
 
-  no_searches : (s : Standing) → searches p text o zero s ≡ []
+  no_searches : (s : Cursor) → searches p text o zero s ≡ []
   unfolding searches
   no_searches s = refl
 
-  rest_none : (n : ℕ) (s : Standing) → found_at p text o s ≡ None → rest n s ≡ []
+  rest_none : (n : ℕ) (s : Cursor) → found_at p text o s ≡ None → rest n s ≡ []
   rest_none n s e = ap (λ x. option_map_or (λ m. searches p text o n (after text s (first_pair m))) x []) e
 
-  rest_some : (n : ℕ) (s : Standing) (m : List ℕ) → found_at p text o s ≡ Some m → rest n s ≡ searches p text o n (after text s (first_pair m))
+  rest_some : (n : ℕ) (s : Cursor) (m : List ℕ) → found_at p text o s ≡ Some m → rest n s ≡ searches p text o n (after text s (first_pair m))
   rest_some n s m e = ap (λ x. option_map_or (λ m. searches p text o n (after text s (first_pair m))) x []) e
 
   -- the match that the search from here found
-  match_at : (s : Standing) (m : List ℕ) → found_at p text o s ≡ Some m → HasMatch (search_at p text o s) m
+  match_at : (s : Cursor) (m : List ℕ) → found_at p text o s ≡ Some m → HasMatch (search_at p text o s) m
   match_at s m e = has_match (search_at p text o s) m (found_tells p text o is s m e).1
 
   -- the next search begins at or past the start where it was tried
-  next_begins : (s : Standing) (m : List ℕ) (e : found_at p text o s ≡ Some m) →
+  next_begins : (s : Cursor) (m : List ℕ) (e : found_at p text o s ≡ Some m) →
       ((match_at s m e).found).0 ≤ (after text s (first_pair m)).pos
   next_begins s m e =
       let h = match_at s m e in
@@ -119,7 +119,7 @@ module _ (p : Plan) (text : List ℕ) (o : RunOptions) (is : IsText text) where
 
   -- the match of each search begins where it was tried
   abbrev KeepsStarts : Type 0
-  KeepsStarts = (s : Standing) (m : Found) → is_place text s.pos ≡ true → match_of (search_at p text o s) ≡ Some m → (m.1).kept ≡ m.0
+  KeepsStarts = (s : Cursor) (m : Found) → is_place text s.pos ≡ true → match_of (search_at p text o s) ≡ Some m → (m.1).kept ≡ m.0
 
   without_keep_out : has_keep_out (p.analysis).tree ≡ false → KeepsStarts
   without_keep_out free s m at e = (begins (search_at p text o s) m (inl (is_place_parts text s.pos at).0) free e).kept
@@ -132,7 +132,7 @@ module _ (p : Plan) (text : List ℕ) (o : RunOptions) (is : IsText text) where
       (easy_keeps p.analysis q.setting (called q.setting q.tree (free_calls q.tree no_calls) no_calls) q.tree easy (first_state m.0))
 
   -- then the next search begins further on
-  next_further : KeepsStarts → (s : Standing) (m : List ℕ) (e : found_at p text o s ≡ Some m) →
+  next_further : KeepsStarts → (s : Cursor) (m : List ℕ) (e : found_at p text o s ≡ Some m) →
       ((match_at s m e).found).0 < (after text s (first_pair m)).pos
   next_further keeps s m e =
       let h = match_at s m e in
@@ -148,13 +148,13 @@ module _ (p : Plan) (text : List ℕ) (o : RunOptions) (is : IsText text) where
 
   -- what holds of a search and those after it, by what holds of two in a row
   module _ (Chain : Search → List Search → Type 0) (last : (q : Search) → Chain q [])
-      (two : (s : Standing) (m : List ℕ) → found_at p text o s ≡ Some m → (rs : List Search) →
+      (two : (s : Cursor) (m : List ℕ) → found_at p text o s ≡ Some m → (rs : List Search) →
       Chain (search_at p text o (after text s (first_pair m))) rs →
       Chain (search_at p text o s) (search_at p text o (after text s (first_pair m)) ∷ rs)) where
-    after_none : (n : ℕ) (s : Standing) → found_at p text o s ≡ None → Chain (search_at p text o s) (rest n s)
+    after_none : (n : ℕ) (s : Cursor) → found_at p text o s ≡ None → Chain (search_at p text o s) (rest n s)
     after_none n s e = subst (Chain (search_at p text o s)) (sym (rest_none n s e)) (last (search_at p text o s))
 
-    after_some : (n : ℕ) (s : Standing) (m : List ℕ) → found_at p text o s ≡ Some m →
+    after_some : (n : ℕ) (s : Cursor) (m : List ℕ) → found_at p text o s ≡ Some m →
         Chain (search_at p text o (after text s (first_pair m))) (rest n (after text s (first_pair m))) →
         Chain (search_at p text o s) (rest (suc n) s)
     after_some n s m e more =
@@ -162,12 +162,12 @@ module _ (p : Plan) (text : List ℕ) (o : RunOptions) (is : IsText text) where
         subst (Chain (search_at p text o s)) (sym (rest_some (suc n) s m e))
         (by_place t (two s m e (rest n t) more) (is_place text t.pos) refl)
       where
-        by_place : (t : Standing) → Chain (search_at p text o s) (search_at p text o t ∷ rest n t) → (v : Bool) → is_place text t.pos ≡ v →
+        by_place : (t : Cursor) → Chain (search_at p text o s) (search_at p text o t ∷ rest n t) → (v : Bool) → is_place text t.pos ≡ v →
             Chain (search_at p text o s) (searches p text o (suc n) t)
         by_place t next true at = subst (Chain (search_at p text o s)) (sym (searches_at n t at)) next
         by_place t next false past = subst (Chain (search_at p text o s)) (sym (searches_past n t past)) (last (search_at p text o s))
 
-    chained : (n : ℕ) (s : Standing) → Chain (search_at p text o s) (rest n s)
+    chained : (n : ℕ) (s : Cursor) → Chain (search_at p text o s) (rest n s)
     chained zero s = go (found_at p text o s) refl
       where
         go : (x : Option (List ℕ)) → found_at p text o s ≡ x → Chain (search_at p text o s) (rest zero s)
@@ -177,7 +177,7 @@ module _ (p : Plan) (text : List ℕ) (o : RunOptions) (is : IsText text) where
             (last (search_at p text o s))
     chained (suc n) s = go (found_at p text o s) refl (λ t. chained n t)
       where
-        go : (x : Option (List ℕ)) → found_at p text o s ≡ x → ((t : Standing) → Chain (search_at p text o t) (rest n t)) →
+        go : (x : Option (List ℕ)) → found_at p text o s ≡ x → ((t : Cursor) → Chain (search_at p text o t) (rest n t)) →
             Chain (search_at p text o s) (rest (suc n) s)
         go None e more = after_none (suc n) s e
         go (Some m) e more = after_some n s m e (more (after text s (first_pair m)))
@@ -208,12 +208,12 @@ later_fewer text i j le =
     omega (arith, all)
 
 module _ (p : Plan) (text : List ℕ) (o : RunOptions) (is : IsText text) where
-  few_searches : (n : ℕ) (s : Standing) → length (searches p text o n s) ≤ length (places_from text s.pos)
+  few_searches : (n : ℕ) (s : Cursor) → length (searches p text o n s) ≤ length (places_from text s.pos)
   few_searches zero s = let none = ap length (no_searches p text o is s) in omega (arith, none)
   few_searches (suc n) s = by_place (is_place text s.pos) refl (λ t. few_searches n t)
     where
       count_rest : is_place text s.pos ≡ true → (x : Option (List ℕ)) → found_at p text o s ≡ x →
-          ((t : Standing) → length (searches p text o n t) ≤ length (places_from text t.pos)) →
+          ((t : Cursor) → length (searches p text o n t) ≤ length (places_from text t.pos)) →
           length (rest p text o is n s) ≤ length (places_from text (suc s.pos))
       count_rest at None e more = let none = ap length (rest_none p text o is n s e) in omega (arith, none)
       count_rest at (Some m) e more =
@@ -225,7 +225,7 @@ module _ (p : Plan) (text : List ℕ) (o : RunOptions) (is : IsText text) where
           omega (arith, some, few, fewer)
 
       by_place : (v : Bool) → is_place text s.pos ≡ v →
-          ((t : Standing) → length (searches p text o n t) ≤ length (places_from text t.pos)) →
+          ((t : Cursor) → length (searches p text o n t) ≤ length (places_from text t.pos)) →
           length (searches p text o (suc n) s) ≤ length (places_from text s.pos)
       by_place false past more = let none = ap length (searches_past p text o is n s past) in omega (arith, none)
       by_place true at more =
@@ -237,18 +237,18 @@ module _ (p : Plan) (text : List ℕ) (o : RunOptions) (is : IsText text) where
   pub count_of_all : length (all_searches p text o) ≤ places_of text
   count_of_all = few_searches (suc (length text)) at_start
 
-  -- what holds of the search from each standing holds of all of them
-  each_search : {P : Search → Type 0} → ((s : Standing) → P (search_at p text o s)) → (n : ℕ) (s : Standing) →
+  -- what holds of the search from each cursor holds of all of them
+  each_search : {P : Search → Type 0} → ((s : Cursor) → P (search_at p text o s)) → (n : ℕ) (s : Cursor) →
       Every P (searches p text o n s)
   each_search {P} each zero s = subst (Every P) (sym (no_searches p text o is s)) no_item
   each_search {P} each (suc n) s = by_place (is_place text s.pos) refl (λ t. each_search {P = P} each n t)
     where
-      by_found : (x : Option (List ℕ)) → found_at p text o s ≡ x → ((t : Standing) → Every P (searches p text o n t)) →
+      by_found : (x : Option (List ℕ)) → found_at p text o s ≡ x → ((t : Cursor) → Every P (searches p text o n t)) →
           Every P (rest p text o is n s)
       by_found None e more = subst (Every P) (sym (rest_none p text o is n s e)) no_item
       by_found (Some m) e more = subst (Every P) (sym (rest_some p text o is n s m e)) (more (after text s (first_pair m)))
 
-      by_place : (v : Bool) → is_place text s.pos ≡ v → ((t : Standing) → Every P (searches p text o n t)) →
+      by_place : (v : Bool) → is_place text s.pos ≡ v → ((t : Cursor) → Every P (searches p text o n t)) →
           Every P (searches p text o (suc n) s)
       by_place false past more = subst (Every P) (sym (searches_past p text o is n s past)) no_item
       by_place true at more =
@@ -258,10 +258,10 @@ module _ (p : Plan) (text : List ℕ) (o : RunOptions) (is : IsText text) where
 
 module _ (p : Plan) (text : List ℕ) (o : RunOptions) (is : IsText text) where
   -- what is listed of an answer and of those after it
-  abbrev listed_by : Standing → Option (List ℕ) → List Search → List (List ℕ)
+  abbrev listed_by : Cursor → Option (List ℕ) → List Search → List (List ℕ)
   listed_by s x qs = listed_among p text o s (cons_option x (filter_map answer qs))
 
-  finds_left : (n : ℕ) (s : Standing) → suc (length text) - s.pos ≤ n →
+  finds_left : (n : ℕ) (s : Cursor) → suc (length text) - s.pos ≤ n →
       left p text o s ≡ listed_among p text o s (filter_map answer (searches p text o n s))
   finds_left zero s le =
       no_place_ends p text o is s (omega (arith, le))
@@ -269,7 +269,7 @@ module _ (p : Plan) (text : List ℕ) (o : RunOptions) (is : IsText text) where
   finds_left (suc n) s le = by_place (is_place text s.pos) refl (λ t few. finds_left n t few)
     where
       by_found : is_place text s.pos ≡ true → (x : Option (List ℕ)) → found_at p text o s ≡ x →
-          ((t : Standing) → suc (length text) - t.pos ≤ n →
+          ((t : Cursor) → suc (length text) - t.pos ≤ n →
           left p text o t ≡ listed_among p text o t (filter_map answer (searches p text o n t))) →
           left p text o s ≡ listed_by s (answer (search_at p text o s)) (rest p text o is n s)
       by_found at None e more =
@@ -284,7 +284,7 @@ module _ (p : Plan) (text : List ℕ) (o : RunOptions) (is : IsText text) where
           ∙ sym (ap₂ (listed_by s) (found_tells p text o is s m e).1 (rest_some p text o is n s m e))
 
       by_place : (v : Bool) → is_place text s.pos ≡ v →
-          ((t : Standing) → suc (length text) - t.pos ≤ n →
+          ((t : Cursor) → suc (length text) - t.pos ≤ n →
           left p text o t ≡ listed_among p text o t (filter_map answer (searches p text o n t))) →
           left p text o s ≡ listed_among p text o s (filter_map answer (searches p text o (suc n) s))
       by_place false past more =
@@ -332,14 +332,14 @@ module _ (p : Plan) (text : List ℕ) (o : RunOptions) (is : IsText text) where
       (each_search p text o is {P = λ q. begun q ≤ 1} (λ s. anchored_begins (search_at p text o s) anchored) (suc (length text)) at_start)
 
   module _ (all : (p.anchored || o.anchored) ≡ false) where
-    successive : (n : ℕ) (s : Standing) → AreSuccessive (search_at p text o s) (rest p text o is n s)
+    successive : (n : ℕ) (s : Cursor) → AreSuccessive (search_at p text o s) (rest p text o is n s)
     successive =
         chained p text o is AreSuccessive (λ q. tt)
         (λ s m e rs more.
         let h = match_at p text o is s m e in
         (h.found, record { found = h.is; text = refl; not_anchored = all }, next_begins p text o is s m e, more))
 
-    further_each : KeepsStarts p text o is → (n : ℕ) (s : Standing) → AreFurtherOn (search_at p text o s) (rest p text o is n s)
+    further_each : KeepsStarts p text o is → (n : ℕ) (s : Cursor) → AreFurtherOn (search_at p text o s) (rest p text o is n s)
     further_each keeps =
         chained p text o is AreFurtherOn (λ q. tt)
         (λ s m e rs more.

@@ -11,16 +11,16 @@ use Rattle.fancy_meaning.specs.Theorems.{EasyRun, outcome}
 use Rattle.fancy_steps.specs.Outcomes.{first_pair}
 use Rattle.fancy_starts.specs.Matches.{has_keep_out}
 use Rattle.fancy_bounds.specs.StartsBegun.{begun}
-use Rattle.fancy_matches.specs.Listing.{Standing, after, all_matches, at_start, found_at, listed_one, options_at}
+use Rattle.fancy_matches.specs.Listing.{Cursor, after, all_matches, at_start, found_at, listed_one, options_at}
 
 -- a tree, a text, and the options of all searches but where they begin
 module _ (p : Plan) (text : List ℕ) (o : RunOptions) where
   -- the search that the list makes from where it stands
-  abbrev pub search_at : Standing → Search
+  abbrev pub search_at : Cursor → Search
   search_at s = search_of p text (options_at o s)
 
   -- the next n searches: one where the list stands at a place, and those after it where it finds something
-  unfoldable pub searches : ℕ → Standing → List Search
+  unfoldable pub searches : ℕ → Cursor → List Search
   searches zero s = []
   searches (suc n) s =
       if is_place text s.pos then
@@ -32,7 +32,7 @@ module _ (p : Plan) (text : List ℕ) (o : RunOptions) where
   all_searches = searches (suc (length text)) at_start
 
   -- of the matches found from where the list stands, one after the other, those of the list
-  abbrev pub listed_among : Standing → List (List ℕ) → List (List ℕ)
+  abbrev pub listed_among : Cursor → List (List ℕ) → List (List ℕ)
   listed_among s [] = []
   listed_among s (m ∷ ms) = listed_one p text o s m ++ listed_among (after text s (first_pair m)) ms
 
@@ -68,7 +68,7 @@ StartsWithoutKeepOut = (p : Plan) (text : List ℕ) (o : RunOptions) → IsText 
 
 -- Where the whole tree is easy, so many instructions are enough for the search from where the list stands.
 abbrev pub InstructionsOfOneSearch : Type 0
-InstructionsOfOneSearch = (i : Input) (text : List ℕ) (o : RunOptions) (s : Standing) →
+InstructionsOfOneSearch = (i : Input) (text : List ℕ) (o : RunOptions) (s : Cursor) →
     EasyRun i text (options_at o s) → enough (search_at (plan i) text o s) ≤ o.step_limit →
     outcome i text (options_at o s) ≢ StepLimitExceeded
 

@@ -16,13 +16,13 @@ use Rattle.fancy_steps.specs.declared.search_limits.SearchLimit.{SearchLimit}
 use Rattle.fancy_steps.specs.declared.search_limits.SearchLimit.TheVariants as search
 use Rattle.fancy_search.specs.Searches.{IsCompiledFrom}
 use Rattle.fancy_search.specs.declared.search.Compiled.{Compiled}
-use Rattle.fancy_matches.specs.Listing.{Standing, backtracks_for, options_at, steps_for}
+use Rattle.fancy_matches.specs.Listing.{Cursor, backtracks_for, options_at, steps_for}
 use Rattle.fancy_matches.specs.Matchers as engine
 use Rattle.fancy_matches.proofs.Easy.{no_limit}
 use Rattle.fancy_replace.specs.Pieces.{as_limit}
 use Rattle.fancy_host.specs.declared.options.FancyOptions.{FancyOptions}
 use Rattle.fancy_host.specs.declared.outcome.FancyOutcome.{FancyOutcome}
-use Rattle.fancy_host.specs.declared.standing.FancyStanding.{FancyStanding}
+use Rattle.fancy_host.specs.declared.cursor.FancyCursor.{FancyCursor}
 use Rattle.fancy_host.specs.declared.tree.CompiledTree.{CompiledTree}
 use Rattle.fancy_host.specs.Codes.{code_of_run, no_text}
 use Rattle.fancy_host.specs.Easy.{HasNoLimits, IsNoLimitWhereEasy}
@@ -136,12 +136,12 @@ module _ (text : List ℕ) (o : FancyOptions) (i : Input) (easy : IsFalse (is_ro
   tells_code from (whether.told fits answer promise stays) = told_code _ from _ answer promise
 
   -- a search of a list that fails
-  list_code : (s : Standing) (passed : Option SearchLimit) (e : Error) → engine.FailsAt i text (listing o text) s e →
+  list_code : (s : Cursor) (passed : Option SearchLimit) (e : Error) → engine.FailsAt i text (listing o text) s e →
       is_run (failure_by passed e).code ≡ false
   list_code s passed e h =
       failure_code passed e (no_limit i text (options_at (listing o text) s) small allowed stepped e easy h.bounds)
 
-  stops_code : {form : Form} {width : ℕ} {c : Compiled} (passed : Option SearchLimit) {room : ℕ} {from to : Standing} {rows : List (List ℕ)}
+  stops_code : {form : Form} {width : ℕ} {c : Compiled} (passed : Option SearchLimit) {room : ℕ} {from to : Cursor} {rows : List (List ℕ)}
       {outcome : FancyOutcome} → IsCompiledFrom i c → Stops form width c text (listing o text) passed room from rows to outcome →
       is_run outcome.code ≡ false
   unfolding is_run
@@ -149,12 +149,12 @@ module _ (text : List ℕ) (o : FancyOptions) (i : Input) (easy : IsFalse (is_ro
   stops_code passed of (list.has_ended all left none) = refl
   stops_code passed of (list.fails e comes fails ends) = list_code _ passed e (fails i of)
 
-  writes_code : {form : Form} {width : ℕ} {c : Compiled} {passed : Option SearchLimit} {from to : Standing} {old new : List ℕ}
+  writes_code : {form : Form} {width : ℕ} {c : Compiled} {passed : Option SearchLimit} {from to : Cursor} {old new : List ℕ}
       {outcome : FancyOutcome} → IsCompiledFrom i c → Writes form width c text (listing o text) passed from old to new outcome →
       is_run outcome.code ≡ false
   writes_code of (list.writes rows wide room stops) = stops_code _ of stops
 
-  lists_code : {form : Form} {t : CompiledTree} {passed : Option SearchLimit} {from to : FancyStanding} {old new : List ℕ} {outcome : FancyOutcome} →
+  lists_code : {form : Form} {t : CompiledTree} {passed : Option SearchLimit} {from to : FancyCursor} {old new : List ℕ} {outcome : FancyOutcome} →
       IsCompiledFrom i (compiled_of t) → Lists form t text o passed from old to new outcome → is_run outcome.code ≡ false
   unfolding is_run
   lists_code of (list.does_not_fit not) = refl
@@ -195,7 +195,7 @@ module _ (text : List ℕ) (o : FancyOptions) where
   any_easy (whether.found search h) t i there from easy none small =
       no_run _ (tells_code text o i easy none small (of_held _ t i there from) h)
 
-  pub list_easy : {form : Form} {passed : Option SearchLimit} {from to : FancyStanding} {old new : List ℕ} {held : Option CompiledTree}
+  pub list_easy : {form : Form} {passed : Option SearchLimit} {from to : FancyCursor} {old new : List ℕ} {held : Option CompiledTree}
       {outcome : FancyOutcome} → FindsAll form text o passed from old held to new outcome → IsNoLimitWhereEasy held text o outcome
   list_easy (list.unsearched h) t i there of easy none small = no_run _ (no_search_code h)
   list_easy (list.found search h) t i there of easy none small =

@@ -4,12 +4,12 @@ use Rattle.fancy_steps.specs.declared.search_limits.SearchLimit.{SearchLimit}
 use Rattle.fancy_host.specs.declared.options.FancyOptions.{FancyOptions}
 use Rattle.fancy_host.specs.declared.outcome.FancyOutcome.{FancyOutcome}
 use Rattle.fancy_host.specs.declared.tree.CompiledTree.{CompiledTree}
-use Rattle.fancy_host.specs.declared.standing.FancyStanding.{FancyStanding}
+use Rattle.fancy_host.specs.declared.cursor.FancyCursor.{FancyCursor}
 use Rattle.fancy_host.specs.Hosted.{IsSearch}
 use Rattle.fancy_host.specs.Lists.{FindsAll, Form, Lists, found}
 
-module _ (form : Form) (text : List ℕ) (o : FancyOptions) (passed : Option SearchLimit) (from : FancyStanding) (old : List ℕ) (outcome : FancyOutcome) where
-  pub all_found_by : (read new : List ℕ) (to : FancyStanding) (held : Option CompiledTree) (s taken : CompiledTree) → read ≡ text → IsSearch text o held →
+module _ (form : Form) (text : List ℕ) (o : FancyOptions) (passed : Option SearchLimit) (from : FancyCursor) (old : List ℕ) (outcome : FancyOutcome) where
+  pub all_found_by : (read new : List ℕ) (to : FancyCursor) (held : Option CompiledTree) (s taken : CompiledTree) → read ≡ text → IsSearch text o held →
       held ≡ Some s → taken ≡ s → Lists form taken read o passed from old to new outcome →
       FindsAll form text o passed from old held to new outcome
   all_found_by read new to held s taken same search there is h =

@@ -12,7 +12,7 @@ use Rattle.fancy_steps.specs.SearchLimits.{EndsBy}
 use Rattle.fancy_steps.specs.declared.search_limits.SearchLimit.{SearchLimit}
 use Rattle.fancy_search.specs.Searches.{HasSource, IsCompiledFrom}
 use Rattle.fancy_search.specs.declared.search.Compiled.{Compiled}
-use Rattle.fancy_matches.specs.Listing.{ComesTo, Standing, stays}
+use Rattle.fancy_matches.specs.Listing.{ComesTo, Cursor, stays}
 use Rattle.fancy_matches.specs.Matchers.{StepsBy}
 use Rattle.fancy_matches.proofs.Lists.{comes_left, comes_more}
 use Rattle.fancy_host.specs.declared.outcome.FancyOutcome.{FancyOutcome}
@@ -59,7 +59,7 @@ all_one P x h (suc k) d one = absurd (omega (arith, one))
 
 module _ (form : Form) (width : ℕ) (c : Compiled) (text : List ℕ) (o : RunOptions) where
   -- so many rows are written, up to this place, by which the list came from `from` to `to`
-  pub record Written (from : Standing) (old : List ℕ) (count at : ℕ) (to : Standing) (new : List ℕ) : Type 0 where
+  pub record Written (from : Cursor) (old : List ℕ) (count at : ℕ) (to : Cursor) (new : List ℕ) : Type 0 where
     pub rows : List (List ℕ)
     pub counts : length rows ≡ count
     pub ends : length (numbers_of rows) ≡ at
@@ -69,7 +69,7 @@ module _ (form : Form) (width : ℕ) (c : Compiled) (text : List ℕ) (o : RunOp
     pub comes : ComesBy form width c text o from rows to
     pub are : new ≡ over (numbers_of rows) old
 
-  pub none_written : (from : Standing) (old : List ℕ) → Written from old 0 0 from old
+  pub none_written : (from : Cursor) (old : List ℕ) → Written from old 0 0 from old
   none_written from old = record {
     rows = [];
     counts = refl;
@@ -81,7 +81,7 @@ module _ (form : Form) (width : ℕ) (c : Compiled) (text : List ℕ) (o : RunOp
     are = sym (over_is [] old (omega arith));
   }
 
-  then_by : (from at to : Standing) (xs ys : List (List ℕ)) → ComesBy form width c text o from xs at → ComesBy form width c text o at ys to →
+  then_by : (from at to : Cursor) (xs ys : List (List ℕ)) → ComesBy form width c text o from xs at → ComesBy form width c text o at ys to →
       ComesBy form width c text o from (xs ++ ys) to
   then_by from at to xs ys one two i h =
       let a = one i h in
@@ -91,7 +91,7 @@ module _ (form : Form) (width : ℕ) (c : Compiled) (text : List ℕ) (o : RunOp
       )
 
   -- where a search for the next match came to
-  module _ (is : IsText text) (from : Standing) (old : List ℕ) (n place : ℕ) (at to : Standing) (new : List ℕ) (w : Written from old n place at new)
+  module _ (is : IsText text) (from : Cursor) (old : List ℕ) (n place : ℕ) (at to : Cursor) (new : List ℕ) (w : Written from old n place at new)
       {A B : Type 0} (show : A → B) (seen : List ℕ → B)
       (result : Result (Option A) Error)
       (steps : (i : Input) → IsCompiledFrom i c → StepsBy i text o show seen at result to) where
@@ -159,7 +159,7 @@ module _ (form : Form) (width : ℕ) (c : Compiled) (text : List ℕ) (o : RunOp
         (λ i h. (steps_so (Err e) was i h).1)
         ends
 
-  module _ (from : Standing) (old : List ℕ) (n place : ℕ) (at to : Standing) (new : List ℕ) (w : Written from old n place at new) where
+  module _ (from : Cursor) (old : List ℕ) (n place : ℕ) (at to : Cursor) (new : List ℕ) (w : Written from old n place at new) where
     pub stops_full : (passed : Option SearchLimit) → passed ≡ None → length old < place + width →
         Stops form width c text o passed (length old) from w.rows at (coded ok)
     stops_full passed none_passed full = is_full (let ends = w.ends in omega (arith, ends, full)) w.comes none_passed

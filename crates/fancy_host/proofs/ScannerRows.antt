@@ -20,7 +20,7 @@ use Rattle.std.proofs.alloc.Global.TheLaws as heap_laws
 use Rattle.std.specs.contracts.impls.GlobalAllocator.TheImpl.{ghosts}
 use Rattle.fancy_scanner.specs.contracts.scanner.TreeScanner as scanner
 use Rattle.fancy_host.specs.contracts.scanner.ScannerHandle as handle
-use Rattle.fancy_host.proofs.Values.{both, Loose}
+use Rattle.fancy_host.proofs.Values.{both, RawBox}
 
 abbrev pub R : RattleType
 R = scanner.the_row
@@ -32,7 +32,7 @@ abbrev pub LZ : Laws Z
 LZ = heap_laws.the_row_laws
 
 abbrev pub Box : RattleType
-Box = Loose R Z LZ ghosts
+Box = RawBox R Z LZ ghosts
 
 abbrev pub Handle : RattleType
 Handle = handle.the_row

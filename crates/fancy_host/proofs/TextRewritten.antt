@@ -15,7 +15,7 @@ use Rattle.fancy_expr.specs.declared.error.Error.{Error}
 use Rattle.fancy_search.specs.declared.search.Compiled.{Compiled}
 use Rattle.fancy_search.specs.Searches.{HasSource, IsCompiledFrom}
 use Rattle.fancy_steps.specs.Outcomes.{first_pair}
-use Rattle.fancy_matches.specs.Listing.{ComesTo, Standing, all_matches, at_start, in_turn, left, stays}
+use Rattle.fancy_matches.specs.Listing.{ComesTo, Cursor, all_matches, at_start, in_turn, left, stays}
 use Rattle.fancy_matches.specs.Matchers.{StepsBy, captures_text, numbers_in, shown_captures, with_numbers}
 use Rattle.fancy_matches.specs.declared.found.Captures.{Captures}
 use Rattle.fancy_matches.proofs.Lists.{all_most, comes_more}
@@ -48,7 +48,7 @@ below_most false limit n lt = lt
 
 module _ (c : Compiled) (text : List ℕ) (o : RunOptions) (limit : ℕ) (write : List ℕ → List ℕ → List ℕ) where
   -- so many of the matches to be replaced were gone through, and what was written goes on to the whole
-  pub record IsDone (i : Input) (n : ℕ) (at : Standing) (from : ℕ) (out : List ℕ) : Type 0 where
+  pub record IsDone (i : Input) (n : ℕ) (at : Cursor) (from : ℕ) (out : List ℕ) : Type 0 where
     pub gone : List (List ℕ)
     pub counts : length gone ≡ n
     pub comes : ComesTo (plan i) text o at_start gone at
@@ -56,7 +56,7 @@ module _ (c : Compiled) (text : List ℕ) (o : RunOptions) (limit : ℕ) (write 
         ≡ rewrite (write text) text (take (most_of limit) (all_matches (plan i) text o))
 
   -- and what is left lies ahead
-  pub record GoesOn (n : ℕ) (at : Standing) (from : ℕ) (out : List ℕ) : Type 0 where
+  pub record GoesOn (n : ℕ) (at : Cursor) (from : ℕ) (out : List ℕ) : Type 0 where
     pub place : is_place text from ≡ true
     pub ahead : (i : Input) → IsCompiledFrom i c → AreAhead text from (map first_pair (left (plan i) text o at))
     pub done : (i : Input) → IsCompiledFrom i c → IsDone i n at from out
@@ -68,7 +68,7 @@ module _ (c : Compiled) (text : List ℕ) (o : RunOptions) (limit : ℕ) (write 
         let fits = is.fits in
         take_most (limit == 0) limit (all_matches (plan i) text o) (omega (arith, most, fits))
 
-    pub at_first : (out : List ℕ) → out ≡ [] → (at : Standing) → at ≡ at_start → GoesOn 0 at 0 out
+    pub at_first : (out : List ℕ) → out ≡ [] → (at : Cursor) → at ≡ at_start → GoesOn 0 at 0 out
     at_first out none at first = record {
       place = place_of_cut text 0 (IsCharBoundary-start text is.utf8);
       ahead = λ i h. subst (λ s. AreAhead text 0 (map first_pair (left (plan i) text o s))) (sym first) (all_ahead i text o is);
@@ -82,7 +82,7 @@ module _ (c : Compiled) (text : List ℕ) (o : RunOptions) (limit : ℕ) (write 
       };
     }
 
-    module _ (source : HasSource c) (n : ℕ) (at to : Standing) (from : ℕ) (out : List ℕ) (goes : GoesOn n at from out)
+    module _ (source : HasSource c) (n : ℕ) (at to : Cursor) (from : ℕ) (out : List ℕ) (goes : GoesOn n at from out)
         (result : Result (Option Captures) Error)
         (steps : (i : Input) → IsCompiledFrom i c → StepsBy i text o shown_captures (with_numbers text) at result to) where
       steps_so : (r : Result (Option Captures) Error) → result ≡ r → (i : Input) → IsCompiledFrom i c →
@@ -109,7 +109,7 @@ module _ (c : Compiled) (text : List ℕ) (o : RunOptions) (limit : ℕ) (write 
           record {
             gone = d.gone;
             below = below_most (limit == 0) limit (length d.gone) (let counts = d.counts in omega (arith, counts, below));
-            standing = to;
+            cursor = to;
             comes = subst (λ ms. ComesTo (plan i) text o at_start ms to) (append-nil d.gone) (comes_more (plan i) text o d.comes s.0);
             fails = s.1;
           }
@@ -176,7 +176,7 @@ module _ (c : Compiled) (text : List ℕ) (o : RunOptions) (limit : ℕ) (write 
               };
         }
 
-    pub ends_by_limit : (at : Standing) (from : ℕ) (out : List ℕ) → GoesOn (most_of limit) at from out → (new rest : List ℕ) →
+    pub ends_by_limit : (at : Cursor) (from : ℕ) (out : List ℕ) → GoesOn (most_of limit) at from out → (new rest : List ℕ) →
         new ≡ out ++ rest → rest ≡ slice_range text from (length text) → IsRewritten c text o (as_limit limit) write new
     ends_by_limit at from out goes new rest is_so tail i h =
         let none : most_of limit - most_of limit ≡ 0 = omega arith in

@@ -13,7 +13,7 @@ use Rattle.fancy_meaning.specs.WellFormed.{most_groups}
 use Rattle.fancy_laws.proofs.Orderly.{analysed_has_as_many_groups}
 use Rattle.fancy_program.specs.Programs.{prog_of}
 use Rattle.fancy_search.specs.Searches.{IsCompiledFrom, program}
-use Rattle.fancy_matches.specs.Listing.{ComesTo, Standing, by_match, options_at, past_match}
+use Rattle.fancy_matches.specs.Listing.{ComesTo, Cursor, by_match, options_at, past_match}
 use Rattle.fancy_matches.proofs.Lists.{found_tells}
 use Rattle.fancy_host.specs.declared.tree.CompiledTree.{CompiledTree}
 use Rattle.fancy_host.specs.Hosted.{compiled_of}
@@ -48,8 +48,8 @@ answer_is_wide q m e = state_is_wide (group_count q.tree) _ m e
 -- ---- a match of a list
 
 module _ (p : Plan) (text : List ℕ) (o : RunOptions) (is : IsText text) where
-  -- the one match by which a list comes from one standing to another
-  pub first_is_wide : {s t : Standing} {m : List ℕ} → ComesTo p text o s (m ∷ []) t → length m ≡ 2 * (group_count (p.analysis).tree + 1)
+  -- the one match by which a list comes from one cursor to another
+  pub first_is_wide : {s t : Cursor} {m : List ℕ} → ComesTo p text o s (m ∷ []) t → length m ≡ 2 * (group_count (p.analysis).tree + 1)
   first_is_wide (by_match s m found listed c) = answer_is_wide (search_of p text (options_at o s)) m (found_tells p text o is s m found).1
   first_is_wide (past_match s m found listed c) = first_is_wide c
 

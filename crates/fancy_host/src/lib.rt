@@ -6,12 +6,13 @@
 //! fails. The errors of the calls below come to these.
 #![tactic(auto)]
 
-mod loose;
+mod cursor;
 mod messages;
 mod names;
 mod options;
 mod outcome;
 mod program;
+mod raw_box;
 mod reading;
 mod refused;
 mod rewriting;
@@ -19,7 +20,6 @@ mod rows;
 mod scanner;
 mod scans;
 mod searches;
-mod standing;
 mod tree;
 mod writing;
 
@@ -35,6 +35,7 @@ ghost use Rattle.fancy_host.specs.Rewritten.{ReplacesIn};
 ghost use Rattle.fancy_host.specs.Scanned.{Adds, HoldsSame, ScansIn};
 ghost use Rattle.fancy_host.specs.Whether.{FindsAny};
 
+use cursor::FancyCursor;
 use fancy_scanner::scanner::TreeScanner;
 use messages::{write_explanation, write_message};
 use options::FancyOptions;
@@ -43,7 +44,6 @@ use program::FancyProgram;
 use reading::{compile_notation, compile_pattern, searched, searched_text};
 use scanner::FancyScanner;
 use scans::{compile_rule, scan};
-use standing::FancyStanding;
 use std::alloc::Global;
 use std::str::from_utf8;
 use writing::{write_over, write_text};
@@ -234,8 +234,8 @@ pub extern "C" fn fancy_find(
 }
 
 /// Finds the next matches of a list in a text, in UTF-8. Writes start and end of each, in bytes of the text, while there is
-/// room in `spans`, and says how many. `standing` moves after them, so the same call again goes on. The code is `FANCY_OK`
-/// if there was no room for one more, and `FANCY_NO_MATCH` if the list has ended. After an error `standing` is before the
+/// room in `spans`, and says how many. `cursor` moves after them, so the same call again goes on. The code is `FANCY_OK`
+/// if there was no room for one more, and `FANCY_NO_MATCH` if the list has ended. After an error `cursor` is before the
 /// search that failed. `pos` and `not_continued` of the options have no effect.
 ///
 /// # Errors
@@ -247,7 +247,7 @@ pub extern "C" fn fancy_find_all(
     program: &mut FancyProgram,
     text: &[u8],
     options: &FancyOptions,
-    standing: &mut FancyStanding,
+    cursor: &mut FancyCursor,
     spans: &mut [usize],
 ) -> FancyOutcome
     requires answers_for { AnswersFor options.now text.now }
@@ -256,10 +256,10 @@ pub extern "C" fn fancy_find_all(
         text.now
         options.now
         (hosted.passed_of options.now program.new.handle.searcher)
-        standing.old
+        cursor.old
         spans.old
         (tree_of program.old.handle.searcher)
-        standing.new
+        cursor.new
         spans.new
         result }
     ensures easy { IsNoLimitWhereEasy
@@ -271,7 +271,7 @@ pub extern "C" fn fancy_find_all(
         Err(outcome) => return outcome,
     };
     let mut searcher = program.take(alloc).into_searcher();
-    let outcome = searcher.find_all(alloc, text, options, standing, spans);
+    let outcome = searcher.find_all(alloc, text, options, cursor, spans);
     *program = FancyProgram::of(searcher);
     outcome
 }
@@ -288,7 +288,7 @@ pub extern "C" fn fancy_captures_all(
     program: &mut FancyProgram,
     text: &[u8],
     options: &FancyOptions,
-    standing: &mut FancyStanding,
+    cursor: &mut FancyCursor,
     spans: &mut [usize],
 ) -> FancyOutcome
     requires answers_for { AnswersFor options.now text.now }
@@ -297,10 +297,10 @@ pub extern "C" fn fancy_captures_all(
         text.now
         options.now
         (hosted.passed_of options.now program.new.handle.searcher)
-        standing.old
+        cursor.old
         spans.old
         (tree_of program.old.handle.searcher)
-        standing.new
+        cursor.new
         spans.new
         result }
     ensures easy { IsNoLimitWhereEasy
@@ -312,7 +312,7 @@ pub extern "C" fn fancy_captures_all(
         Err(outcome) => return outcome,
     };
     let mut searcher = program.take(alloc).into_searcher();
-    let outcome = searcher.captures_all(alloc, text, options, standing, spans);
+    let outcome = searcher.captures_all(alloc, text, options, cursor, spans);
     *program = FancyProgram::of(searcher);
     outcome
 }

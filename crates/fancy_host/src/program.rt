@@ -6,8 +6,8 @@ ghost use Rattle.fancy_host.specs.declared.searches.Searcher.{Searcher};
 ghost use Rattle.fancy_host.specs.Hosted.{compiled, group_count, groups, tree_in, tree_of};
 ghost use Rattle.fancy_host.specs.Owned.{owned, searcher_coded};
 
-use crate::loose::Loose;
 use crate::outcome::FancyOutcome;
+use crate::raw_box::RawBox;
 use crate::searches::Searcher;
 use std::alloc::Global;
 use std::marker::Model;
@@ -39,22 +39,22 @@ impl Handle {
         }
     }
 
-    fn of_loose(loose: Loose<Searcher, Global>) -> Handle
-        ensures { result.searcher ≡ Some loose.value }
+    fn of_loose(raw_box: RawBox<Searcher, Global>) -> Handle
+        ensures { result.searcher ≡ Some raw_box.value }
     {
-        let Loose { at, alloc } = loose;
+        let RawBox { at, alloc } = raw_box;
         Handle {
             at: at as *mut u8,
             alloc,
         }
     }
 
-    fn into_loose(self) -> Loose<Searcher, Global>
+    fn into_loose(self) -> RawBox<Searcher, Global>
         requires { IsSome self.searcher }
         ensures { self.searcher ≡ Some result.value }
     {
         let Handle { at, alloc } = self;
-        Loose {
+        RawBox {
             at: at as *mut Searcher,
             alloc,
         }
@@ -95,7 +95,7 @@ impl FancyProgram {
         FancyProgram {
             is_set: true,
             groups: searcher.tree().group_count(),
-            handle: Handle::of_loose(Loose::of(searcher)),
+            handle: Handle::of_loose(RawBox::of(searcher)),
         }
     }
 

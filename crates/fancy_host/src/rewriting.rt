@@ -15,9 +15,9 @@ ghost use Rattle.fancy_host.specs.Rewritten as rewritten;
 use crate::outcome::{FancyOutcome, NO_ROOM, OK};
 use crate::writing::write_text;
 use fancy_expr::error::Error;
+use fancy_matches::cursor::Cursor;
 use fancy_matches::found::Captures;
 use fancy_matches::searches::next_found;
-use fancy_matches::standing::Standing;
 use fancy_replace::output::{BoundedText, Output};
 use fancy_replace::replacer::Replacer;
 use fancy_search::scratch::Scratch;
@@ -51,11 +51,11 @@ pub fn rewrite<R: Replacer>(
     ensures stays { StaysWithin result (passed_of scratch.new) }
 {
     let most = most_of(limit);
-    let mut standing = Standing::first();
+    let mut cursor = Cursor::first();
     let mut out = BoundedText::new(alloc, room);
     let mut from = 0;
     for count in 0..most {
-        match next_found::<Captures<'_>>(alloc, compiled, text, options, &mut standing, scratch)? {
+        match next_found::<Captures<'_>>(alloc, compiled, text, options, &mut cursor, scratch)? {
             None => return Ok(with_rest(out, &text[from..])?),
             Some(captures) => {
                 let whole = captures.whole();

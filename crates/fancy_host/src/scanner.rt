@@ -5,7 +5,7 @@ ghost use Rattle.std.specs.Option.{IsSome, is_some};
 ghost use Rattle.fancy_scanner.specs.declared.scanner.TreeScanner.{TreeScanner};
 ghost use Rattle.fancy_host.specs.Owned.{owned_scanner, scanner_coded};
 
-use crate::loose::Loose;
+use crate::raw_box::RawBox;
 use fancy_scanner::scanner::TreeScanner;
 use std::alloc::{AllocError, Global};
 use std::marker::Model;
@@ -37,22 +37,22 @@ impl ScannerHandle {
         }
     }
 
-    fn of_loose(loose: Loose<TreeScanner, Global>) -> ScannerHandle
-        ensures { result.scanner ≡ Some loose.value }
+    fn of_loose(raw_box: RawBox<TreeScanner, Global>) -> ScannerHandle
+        ensures { result.scanner ≡ Some raw_box.value }
     {
-        let Loose { at, alloc } = loose;
+        let RawBox { at, alloc } = raw_box;
         ScannerHandle {
             at: at as *mut u8,
             alloc,
         }
     }
 
-    fn into_loose(self) -> Loose<TreeScanner, Global>
+    fn into_loose(self) -> RawBox<TreeScanner, Global>
         requires { IsSome self.scanner }
         ensures { self.scanner ≡ Some result.value }
     {
         let ScannerHandle { at, alloc } = self;
-        Loose {
+        RawBox {
             at: at as *mut TreeScanner,
             alloc,
         }
@@ -90,7 +90,7 @@ impl FancyScanner {
     {
         FancyScanner {
             is_set: true,
-            handle: ScannerHandle::of_loose(Loose::of(scanner)),
+            handle: ScannerHandle::of_loose(RawBox::of(scanner)),
         }
     }
 

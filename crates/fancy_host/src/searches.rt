@@ -6,10 +6,10 @@ ghost use Rattle.std.proofs.Props.{props};
 ghost use Rattle.fancy_expr.specs.Sound.{IsWellFormedTree};
 ghost use Rattle.fancy_search.specs.Scratches.{Suits};
 
+use crate::cursor::FancyCursor;
 use crate::options::FancyOptions;
 use crate::outcome::FancyOutcome;
 use crate::refused::failure_of;
-use crate::standing::FancyStanding;
 use crate::tree::CompiledTree;
 use fancy_expr::error::Error;
 use fancy_expr::expr::ExprTree;
@@ -178,14 +178,14 @@ impl Searcher {
             .find(alloc, text, options, spans, &mut self.scratch)
     }
 
-    /// Writes the spans of the next matches of a list, while there is room; `standing` then is after
+    /// Writes the spans of the next matches of a list, while there is room; `cursor` then is after
     /// them.
     pub fn find_all(
         &mut self,
         alloc: Global,
         text: &str,
         options: &FancyOptions,
-        standing: &mut FancyStanding,
+        cursor: &mut FancyCursor,
         spans: &mut [usize],
     ) -> FancyOutcome
         ensures lists { Lists
@@ -194,16 +194,16 @@ impl Searcher {
             text.now
             options.now
             (hosted.passed_in options.now self.new.scratch)
-            standing.old
+            cursor.old
             spans.old
-            standing.new
+            cursor.new
             spans.new
             result }
         ensures keeps { tree_in self.new ≡ tree_in self.old }
     {
         let scratch = &mut self.scratch;
         self.tree
-            .find_all(alloc, text, options, standing, spans, scratch)
+            .find_all(alloc, text, options, cursor, spans, scratch)
     }
 
     /// Writes the spans of all groups of these matches; the list then stands after them.
@@ -212,7 +212,7 @@ impl Searcher {
         alloc: Global,
         text: &str,
         options: &FancyOptions,
-        standing: &mut FancyStanding,
+        cursor: &mut FancyCursor,
         spans: &mut [usize],
     ) -> FancyOutcome
         ensures lists { Lists
@@ -221,16 +221,16 @@ impl Searcher {
             text.now
             options.now
             (hosted.passed_in options.now self.new.scratch)
-            standing.old
+            cursor.old
             spans.old
-            standing.new
+            cursor.new
             spans.new
             result }
         ensures keeps { tree_in self.new ≡ tree_in self.old }
     {
         let scratch = &mut self.scratch;
         self.tree
-            .captures_all(alloc, text, options, standing, spans, scratch)
+            .captures_all(alloc, text, options, cursor, spans, scratch)
     }
 
     /// Writes the text with its first `limit` matches replaced, as much of it as there is room for with a zero at its end.

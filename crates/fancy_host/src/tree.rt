@@ -6,20 +6,20 @@ ghost use Rattle.fancy_steps.specs.SearchLimits.{StaysWithin};
 ghost use Rattle.fancy_search.specs.Scratches.{Suits, limits_of, passed_of};
 ghost use Rattle.fancy_steps.specs.Tasks.{options_of as run_options_of, task_of};
 ghost use Rattle.fancy_search.specs.Searches.{HasSource, program};
-ghost use Rattle.fancy_matches.specs.Matchers.{standing_of};
+ghost use Rattle.fancy_matches.specs.Matchers.{cursor_of};
 ghost use Rattle.fancy_replace.specs.Pieces.{as_limit};
 ghost use Rattle.fancy_replace.specs.Reading.{groups_named};
 
+use crate::cursor::FancyCursor;
 use crate::names::{name_of, numbers_named};
 use crate::options::FancyOptions;
 use crate::outcome::{FancyOutcome, NO_MATCH, OK, write_answer};
 use crate::rewriting::{rewrite, text_room, write_kept};
 use crate::rows::{Groups, Row};
-use crate::standing::FancyStanding;
 use fancy_expr::error::Error;
+use fancy_matches::cursor::Cursor;
 use fancy_matches::found::Match;
 use fancy_matches::searches::next_found;
-use fancy_matches::standing::Standing;
 use fancy_replace::output::BoundedText;
 use fancy_replace::replacer::NoExpand;
 use fancy_replace::template::Template;
@@ -134,7 +134,7 @@ impl CompiledTree {
         text: &'t str,
         options: &RunOptions,
         width: usize,
-        standing: &mut Standing,
+        cursor: &mut Cursor,
         room: &mut [usize],
         scratch: &mut Scratch,
     ) -> FancyOutcome
@@ -152,16 +152,16 @@ impl CompiledTree {
             text.now
             (run_options_of options.now)
             (passed_of scratch.new)
-            (standing_of standing.old)
+            (cursor_of cursor.old)
             room.old
-            (standing_of standing.new)
+            (cursor_of cursor.new)
             room.new
             result }
     {
         let mut at = 0;
         let mut count = 0;
         'rows: while room.len() - at >= width {
-            match next_found::<F>(alloc, &self.compiled, text, options, standing, scratch) {
+            match next_found::<F>(alloc, &self.compiled, text, options, cursor, scratch) {
                 Ok(None) => return FancyOutcome::coded(NO_MATCH).with_count(count),
                 Ok(Some(found)) => {
                     found.write(at, room);
@@ -184,7 +184,7 @@ impl CompiledTree {
         text: &'t str,
         options: &FancyOptions,
         width: usize,
-        standing: &mut FancyStanding,
+        cursor: &mut FancyCursor,
         room: &mut [usize],
         scratch: &mut Scratch,
     ) -> FancyOutcome
@@ -197,9 +197,9 @@ impl CompiledTree {
             text.now
             options.now
             (hosted.passed_in options.now scratch.new)
-            standing.old
+            cursor.old
             room.old
-            standing.new
+            cursor.new
             room.new
             result }
     {
@@ -208,9 +208,9 @@ impl CompiledTree {
             return FancyOutcome::unfit();
         }
         scratch.limit(options.limits());
-        let mut list = standing.standing();
+        let mut list = cursor.cursor();
         let outcome = self.write_rows::<F>(alloc, text, &listing, width, &mut list, room, scratch);
-        *standing = FancyStanding::of(&list);
+        *cursor = FancyCursor::of(&list);
         outcome
     }
 
@@ -221,7 +221,7 @@ impl CompiledTree {
         alloc: Global,
         text: &str,
         options: &FancyOptions,
-        standing: &mut FancyStanding,
+        cursor: &mut FancyCursor,
         spans: &mut [usize],
         scratch: &mut Scratch,
     ) -> FancyOutcome
@@ -233,13 +233,13 @@ impl CompiledTree {
             text.now
             options.now
             (hosted.passed_in options.now scratch.new)
-            standing.old
+            cursor.old
             spans.old
-            standing.new
+            cursor.new
             spans.new
             result }
     {
-        self.list::<Match<'_>>(alloc, text, options, 2, standing, spans, scratch)
+        self.list::<Match<'_>>(alloc, text, options, 2, cursor, spans, scratch)
     }
 
     /// Writes the spans of all groups of these matches, this many numbers for each; the list then is after them.
@@ -248,7 +248,7 @@ impl CompiledTree {
         alloc: Global,
         text: &str,
         options: &FancyOptions,
-        standing: &mut FancyStanding,
+        cursor: &mut FancyCursor,
         spans: &mut [usize],
         scratch: &mut Scratch,
     ) -> FancyOutcome
@@ -260,14 +260,14 @@ impl CompiledTree {
             text.now
             options.now
             (hosted.passed_in options.now scratch.new)
-            standing.old
+            cursor.old
             spans.old
-            standing.new
+            cursor.new
             spans.new
             result }
     {
         let width = self.group_count().saturating_mul(2);
-        self.list::<Groups>(alloc, text, options, width, standing, spans, scratch)
+        self.list::<Groups>(alloc, text, options, width, cursor, spans, scratch)
     }
 
     /// The text with its first `limit` matches replaced, all of them where that is 0: by this text as it stands, or by

@@ -7,7 +7,7 @@ use Rattle.fancy_meaning.specs.Numbers.{usize_max}
 use Rattle.fancy_meaning.specs.Options as plain
 use Rattle.fancy_meaning.specs.Premises.{Input, IsText, plan}
 use Rattle.fancy_expr.specs.declared.error.Error.{Error}
-use Rattle.fancy_matches.specs.Listing.{ComesTo, Standing, at_start, left, stays}
+use Rattle.fancy_matches.specs.Listing.{ComesTo, Cursor, at_start, left, stays}
 use Rattle.fancy_matches.specs.Matchers.{Counts, GivesMatch, IsNoLimitWhereEasy, IsRegexOf, IsSame, Iteration, compiled_of, options_in}
 use Rattle.fancy_matches.specs.declared.found.Match.{Match}
 use Rattle.fancy_matches.specs.declared.matcher.Matcher.{Matcher}
@@ -16,7 +16,7 @@ use Rattle.fancy_matches.proofs.Lists.{all_most, comes_left, comes_more}
 use Rattle.fancy_matches.proofs.Stepping.{of_same, same_twice}
 
 -- by so many matches the list of a matcher came to where it stands
-pub record Counted (i : Input) (text : List ℕ) (o : plain.RunOptions) (count : ℕ) (s : Standing) : Type 0 where
+pub record Counted (i : Input) (text : List ℕ) (o : plain.RunOptions) (count : ℕ) (s : Cursor) : Type 0 where
   pub gone : List (List ℕ)
   pub counts : length gone ≡ count
   pub comes : ComesTo (plan i) text o at_start gone s
@@ -24,9 +24,9 @@ pub record Counted (i : Input) (text : List ℕ) (o : plain.RunOptions) (count :
 pub record HasCounted (r : Matcher) (text : List ℕ) (count : ℕ) (s : Iteration) : Type 0 where
   pub same : IsSame r s.matcher.now
   pub within : s.text ≡ text
-  pub so_far : (i : Input) (o : plain.RunOptions) → IsRegexOf i text o r → Counted i text o count s.standing
+  pub so_far : (i : Input) (o : plain.RunOptions) → IsRegexOf i text o r → Counted i text o count s.cursor
 
-pub none_counted : (r : Matcher) (text : List ℕ) (s : Iteration) → s.matcher.now ≡ r → s.text ≡ text → s.standing ≡ at_start →
+pub none_counted : (r : Matcher) (text : List ℕ) (s : Iteration) → s.matcher.now ≡ r → s.text ≡ text → s.cursor ≡ at_start →
     HasCounted r text 0 s
 none_counted r text s is within first = record {
   same = (ap compiled_of is, ap (λ (x : Matcher). x.options) is);
@@ -36,16 +36,16 @@ none_counted r text s is within first = record {
 
 module _ (r : Matcher) (text : List ℕ) (is : IsText text) (count : ℕ) (s t : Iteration) (so_far : HasCounted r text count s)
     (item : Option (Result Match Error))
-    (gives : (i : Input) (o : plain.RunOptions) → IsRegexOf i s.text o s.matcher.now → GivesMatch i s.text o s.standing item t.standing) where
+    (gives : (i : Input) (o : plain.RunOptions) → IsRegexOf i s.text o s.matcher.now → GivesMatch i s.text o s.cursor item t.cursor) where
   gives_so : (x : Option (Result Match Error)) → item ≡ x → (i : Input) (o : plain.RunOptions) → IsRegexOf i text o r →
-      GivesMatch i text o s.standing x t.standing
+      GivesMatch i text o s.cursor x t.cursor
   gives_so x was i o h =
-      subst (λ y. GivesMatch i text o s.standing y t.standing) was
-      (subst (λ u. GivesMatch i u o s.standing item t.standing) so_far.within
+      subst (λ y. GivesMatch i text o s.cursor y t.cursor) was
+      (subst (λ u. GivesMatch i u o s.cursor item t.cursor) so_far.within
       (gives i o (subst (λ u. IsRegexOf i u o s.matcher.now) (sym so_far.within) (of_same r s.matcher.now i text o so_far.same h))))
 
   module _ (m : Match) (was : item ≡ Some (Ok m)) where
-    next : (i : Input) (o : plain.RunOptions) → IsRegexOf i text o r → Counted i text o (suc count) t.standing
+    next : (i : Input) (o : plain.RunOptions) → IsRegexOf i text o r → Counted i text o (suc count) t.cursor
     next i o h =
         let before = so_far.so_far i o h in
         let one = gives_so (Some (Ok m)) was i o h in
@@ -59,7 +59,7 @@ module _ (r : Matcher) (text : List ℕ) (is : IsText text) (count : ℕ) (s t :
     goes_on n more within same = record {
       same = same_twice r s.matcher.now t.matcher.now so_far.same same;
       within = within ∙ so_far.within;
-      so_far = λ i o h. subst (λ k. Counted i text o k t.standing) (sym more) (next i o h);
+      so_far = λ i o h. subst (λ k. Counted i text o k t.cursor) (sym more) (next i o h);
     }
 
     -- there are no more matches than places
@@ -71,7 +71,7 @@ module _ (r : Matcher) (text : List ℕ) (is : IsText text) (count : ℕ) (s t :
         let all = ap (λ (xs : List (List ℕ)). length xs) (comes_left (plan of.0) text o is h.comes) in
         let most = all_most (plan of.0) text o is in
         let small = is.fits in
-        omega (arith, all, most, small, h.counts, length-append h.gone (left (plan of.0) text o t.standing)))
+        omega (arith, all, most, small, h.counts, length-append h.gone (left (plan of.0) text o t.cursor)))
 
   pub all_counted : item ≡ None → (i : Input) (o : plain.RunOptions) → IsRegexOf i text o r → Counts i text o (Ok count)
   all_counted was i o h =
@@ -86,7 +86,7 @@ module _ (r : Matcher) (text : List ℕ) (is : IsText text) (count : ℕ) (s t :
       let fails = (gives_so (Some (Err e)) was i o h).0 in
       record {
         gone = before.gone ++ [];
-        standing = fails.standing;
+        cursor = fails.cursor;
         comes = comes_more (plan i) text o before.comes fails.comes;
         fails = fails.fails;
       }

@@ -26,7 +26,7 @@ use Rattle.fancy_laws.proofs.Every.{Every, every_one, every_if, every_filter, ev
 use Rattle.fancy_laws.proofs.Moves.{is_place_parts, past_char_tells}
 use Rattle.fancy_laws.proofs.WaysOf.{every_place_from}
 use Rattle.fancy_steps.specs.Outcomes.{first_pair}
-use Rattle.fancy_matches.specs.Listing.{AreSpans, ComesTo, by_match, past_match, stays, group_span, Standing, after, found_at, AreApart, IsPast, PiecesJoin, in_turn, part, pieces, all_spans, at_start, further, is_listed, left, listed, listed_one, next_pos, options_at}
+use Rattle.fancy_matches.specs.Listing.{AreSpans, ComesTo, by_match, past_match, stays, group_span, Cursor, after, found_at, AreApart, IsPast, PiecesJoin, in_turn, part, pieces, all_spans, at_start, further, is_listed, left, listed, listed_one, next_pos, options_at}
 
 -- ---- what an answer has
 
@@ -97,7 +97,7 @@ further_on text i = go (past_char text (any_takes true false) i) (λ j e. len_ut
     go None k = omega arith
     go (Some j) k = k j refl
 
-pub next_on : (text : List ℕ) (s : Standing) (span : Span) → s.pos ≤ span.1 → s.pos < next_pos text s span
+pub next_on : (text : List ℕ) (s : Cursor) (span : Span) → s.pos ≤ span.1 → s.pos < next_pos text s span
 next_on text s (start, end) on =
     cond_both (nat_lt (max s.pos start) end) end (further text end) (λ i. s.pos < i)
     (λ e. grind (arith, nat_tests)) (λ e. let f = further_on text end in omega (arith, f, on))
@@ -105,38 +105,38 @@ next_on text s (start, end) on =
 -- ---- what is left
 
 module _ (p : Plan) (text : List ℕ) (o : RunOptions) (is : IsText text) where
-  abbrev found : Standing → Option (List ℕ)
+  abbrev found : Cursor → Option (List ℕ)
   found = found_at p text o
 
-  pub found_tells : (s : Standing) (m : List ℕ) → found s ≡ Some m →
+  pub found_tells : (s : Cursor) (m : List ℕ) → found s ≡ Some m →
       (is_place text s.pos ≡ true) × (answer (search_of p text (options_at o s)) ≡ Some m)
   found_tells s m =
       cond_both (is_place text s.pos) (answer (search_of p text (options_at o s))) None
       (λ x. x ≡ Some m → (is_place text s.pos ≡ true) × (answer (search_of p text (options_at o s)) ≡ Some m))
       (λ at e. (at, e)) (λ no e. cc)
 
-  pub goes_on : (s : Standing) (m : List ℕ) → found s ≡ Some m → s.pos < (after text s (first_pair m)).pos
+  pub goes_on : (s : Cursor) (m : List ℕ) → found s ≡ Some m → s.pos < (after text s (first_pair m)).pos
   goes_on s m e =
       let t = found_tells s m e in
       next_on text s (first_pair m) ((numbers_found (search_of p text (options_at o s)) m is t.0 t.1).0).on
 
-  listed_none : (n : ℕ) (s : Standing) → found s ≡ None → listed p text o n s ≡ []
+  listed_none : (n : ℕ) (s : Cursor) → found s ≡ None → listed p text o n s ≡ []
   unfolding listed
   listed_none zero s e = refl
   listed_none (suc n) s e = rw e refl
 
-  listed_some : (n : ℕ) (s : Standing) (m : List ℕ) → found s ≡ Some m →
+  listed_some : (n : ℕ) (s : Cursor) (m : List ℕ) → found s ≡ Some m →
       listed p text o (suc n) s ≡ listed_one p text o s m ++ listed p text o n (after text s (first_pair m))
   unfolding listed
   listed_some n s m e = rw e refl
 
-  past_none : (s : Standing) → length text < s.pos → found s ≡ None
+  past_none : (s : Cursor) → length text < s.pos → found s ≡ None
   past_none s past =
       cond_both (is_place text s.pos) (answer (search_of p text (options_at o s))) None (λ x. x ≡ None)
       (λ at. let within = (is_place_parts text s.pos at).0 in absurd (omega (arith, past, within))) (λ no. refl)
 
   -- more searches than there are places find nothing more
-  enough : (n k : ℕ) (s : Standing) → suc (length text) - s.pos ≤ n → suc (length text) - s.pos ≤ k →
+  enough : (n k : ℕ) (s : Cursor) → suc (length text) - s.pos ≤ n → suc (length text) - s.pos ≤ k →
       listed p text o n s ≡ listed p text o k s
   enough zero k s a b =
       let none = past_none s (omega (arith, a)) in listed_none zero s none ∙ sym (listed_none k s none)
@@ -155,10 +155,10 @@ module _ (p : Plan) (text : List ℕ) (o : RunOptions) (is : IsText text) where
       go (Some m) e same =
           listed_some n s m e ∙ ap (λ rest. listed_one p text o s m ++ rest) (same m e) ∙ sym (listed_some k s m e)
 
-  pub left_none : (s : Standing) → found s ≡ None → left p text o s ≡ []
+  pub left_none : (s : Cursor) → found s ≡ None → left p text o s ≡ []
   left_none s e = listed_none (suc (length text) - s.pos) s e
 
-  pub left_some : (s : Standing) (m : List ℕ) → found s ≡ Some m →
+  pub left_some : (s : Cursor) (m : List ℕ) → found s ≡ Some m →
       left p text o s ≡ listed_one p text o s m ++ left p text o (after text s (first_pair m))
   left_some s m e =
       let next = after text s (first_pair m) in
@@ -171,17 +171,17 @@ module _ (p : Plan) (text : List ℕ) (o : RunOptions) (is : IsText text) where
 
   -- ---- the next search settles what is left
 
-  found_answer : (s : Standing) → is_place text s.pos ≡ true → found s ≡ answer (search_of p text (options_at o s))
+  found_answer : (s : Cursor) → is_place text s.pos ≡ true → found s ≡ answer (search_of p text (options_at o s))
   found_answer s at = ap (λ b. if b then answer (search_of p text (options_at o s)) else None) at
 
-  pub ended_at : (s : Standing) → is_place text s.pos ≡ false → left p text o s ≡ []
+  pub ended_at : (s : Cursor) → is_place text s.pos ≡ false → left p text o s ≡ []
   ended_at s is_so =
       left_none s (ap (λ b. if b then answer (search_of p text (options_at o s)) else None) is_so)
 
-  pub no_place_ends : (s : Standing) → length text < s.pos → left p text o s ≡ []
+  pub no_place_ends : (s : Cursor) → length text < s.pos → left p text o s ≡ []
   no_place_ends s past = left_none s (past_none s past)
 
-  module _ (s : Standing) (at : is_place text s.pos ≡ true) where
+  module _ (s : Cursor) (at : is_place text s.pos ≡ true) where
     pub finds_none : None ≡ answer (search_of p text (options_at o s)) → left p text o s ≡ []
     finds_none e = left_none s (found_answer s at ∙ sym e)
 
@@ -205,17 +205,17 @@ module _ (p : Plan) (text : List ℕ) (o : RunOptions) (is : IsText text) where
           left_some s m is_found
           ∙ ap (λ b. (if b then m ∷ [] else []) ++ left p text o (after text s (first_pair m))) is_so
 
--- ---- a list comes from one standing to another
+-- ---- a list comes from one cursor to another
 
 module _ (p : Plan) (text : List ℕ) (o : RunOptions) where
-  pub comes_more : {s t u : Standing} {ms ns : List (List ℕ)} → ComesTo p text o s ms t → ComesTo p text o t ns u → ComesTo p text o s (ms ++ ns) u
+  pub comes_more : {s t u : Cursor} {ms ns : List (List ℕ)} → ComesTo p text o s ms t → ComesTo p text o t ns u → ComesTo p text o s (ms ++ ns) u
   comes_more stays d = d
   comes_more (by_match s m found listed c) d = by_match s m found listed (comes_more c d)
   comes_more (past_match s m found listed c) d = past_match s m found listed (comes_more c d)
 
   module _ (is : IsText text) where
     -- its matches are the first of those that were left
-    pub comes_left : {s t : Standing} {ms : List (List ℕ)} → ComesTo p text o s ms t → left p text o s ≡ ms ++ left p text o t
+    pub comes_left : {s t : Cursor} {ms : List (List ℕ)} → ComesTo p text o s ms t → left p text o s ≡ ms ++ left p text o t
     comes_left stays = refl
     comes_left (by_match s m found listed c) =
         left_some p text o is s m found
@@ -227,7 +227,7 @@ module _ (p : Plan) (text : List ℕ) (o : RunOptions) where
         ∙ comes_left c
 
     -- it stands further on for each of them
-    pub comes_on : {s t : Standing} {ms : List (List ℕ)} → ComesTo p text o s ms t → length ms + s.pos ≤ t.pos
+    pub comes_on : {s t : Cursor} {ms : List (List ℕ)} → ComesTo p text o s ms t → length ms + s.pos ≤ t.pos
     comes_on {s} stays = omega arith
     comes_on (by_match s m found listed c) = let on = goes_on p text o is s m found in let rest = comes_on c in omega (arith, on, rest)
     comes_on (past_match s m found listed c) = let on = goes_on p text o is s m found in let rest = comes_on c in omega (arith, on, rest)
@@ -239,7 +239,7 @@ one_most true m = omega arith
 one_most false m = omega arith
 
 module _ (p : Plan) (text : List ℕ) (o : RunOptions) (is : IsText text) where
-  listed_most : (n : ℕ) (s : Standing) → length (listed p text o n s) ≤ n
+  listed_most : (n : ℕ) (s : Cursor) → length (listed p text o n s) ≤ n
   unfolding listed
   listed_most zero s = omega arith
   listed_most (suc n) s = go (found_at p text o s) refl (λ m. listed_most n (after text s (first_pair m)))
@@ -258,17 +258,17 @@ module _ (p : Plan) (text : List ℕ) (o : RunOptions) (is : IsText text) where
 
 -- ---- the matches of a list lie apart
 
-pub ends_before_next : (text : List ℕ) (s : Standing) (span : Span) → span.1 ≤ next_pos text s span
+pub ends_before_next : (text : List ℕ) (s : Cursor) (span : Span) → span.1 ≤ next_pos text s span
 ends_before_next text s (start, end) =
     cond_both (nat_lt (max s.pos start) end) end (further text end) (λ i. end ≤ i)
     (λ e. omega arith) (λ e. let f = further_on text end in omega (arith, f))
 
 -- the last match of the list ended at or before the place where the next search begins
-IsOrderly : Standing → Type 0
+IsOrderly : Cursor → Type 0
 IsOrderly s = (last : ℕ) → s.last ≡ Some last → last ≤ s.pos
 
 -- a match of the list lies past the last one
-listed_past : (s : Standing) (span : Span) → IsOrderly s → span.0 ≤ span.1 → is_listed s span ≡ true → IsPast s.last span
+listed_past : (s : Cursor) (span : Span) → IsOrderly s → span.0 ≤ span.1 → is_listed s span ≡ true → IsPast s.last span
 unfolding IsOrderly
 listed_past s (start, end) orderly in_order is_so = go s.last orderly is_so
   where
@@ -288,12 +288,12 @@ listed_past s (start, end) orderly in_order is_so = go s.last orderly is_so
         )
 
 module _ (p : Plan) (text : List ℕ) (o : RunOptions) (is : IsText text) where
-  found_sound : (s : Standing) (m : List ℕ) → found_at p text o s ≡ Some m → AreNumbers text s.pos m
+  found_sound : (s : Cursor) (m : List ℕ) → found_at p text o s ≡ Some m → AreNumbers text s.pos m
   found_sound s m e =
       let t = found_tells p text o is s m e in
       (numbers_found (search_of p text (options_at o s)) m is t.0 t.1).0
 
-  orderly_after : (s : Standing) (m : List ℕ) → found_at p text o s ≡ Some m → IsOrderly s → IsOrderly (after text s (first_pair m))
+  orderly_after : (s : Cursor) (m : List ℕ) → found_at p text o s ≡ Some m → IsOrderly s → IsOrderly (after text s (first_pair m))
   unfolding IsOrderly
   orderly_after s m e orderly last =
       let on = goes_on p text o is s m e in
@@ -303,7 +303,7 @@ module _ (p : Plan) (text : List ℕ) (o : RunOptions) (is : IsText text) where
       let past = ends_before_next text s (first_pair m) in omega (arith, same, past))
       (λ is_so e. let before = orderly last e in omega (arith, before, on))
 
-  listed_apart : (n : ℕ) (s : Standing) → IsOrderly s → AreApart text s.last (map first_pair (listed p text o n s))
+  listed_apart : (n : ℕ) (s : Cursor) → IsOrderly s → AreApart text s.last (map first_pair (listed p text o n s))
   unfolding listed
   listed_apart zero s orderly = tt
   listed_apart (suc n) s orderly =

@@ -20,7 +20,7 @@ use Rattle.fancy_search.specs.Searches.{HasSource, IsCompiledFrom, program}
 use Rattle.fancy_search.specs.declared.search.Compiled.{Compiled}
 use Rattle.fancy_expr.specs.declared.error.Error.{Error}
 use Rattle.fancy_laws.proofs.Moves.{is_place_parts}
-use Rattle.fancy_matches.specs.Listing.{ComesTo, Standing, after, by_match, ended, is_listed, options_at, options_for, past_match, stays}
+use Rattle.fancy_matches.specs.Listing.{ComesTo, Cursor, after, by_match, ended, is_listed, options_at, options_for, past_match, stays}
 use Rattle.fancy_matches.specs.Matchers.{ComesBy, EndsOn, GivesBy, IsNoLimitWhereEasy, IsRegexOf, IsSame, Shows, StepsBy, compiled_of, left_of, options_in}
 use Rattle.fancy_matches.specs.declared.options.MatcherOptions.{MatcherOptions}
 use Rattle.fancy_matches.specs.declared.matcher.Matcher.{Matcher}
@@ -47,7 +47,7 @@ some_seen seen shown (Some m) e = record { numbers = m; found = refl; shows = sa
 -- ---- a search from where the list of a tree stands, once it came there without a match
 
 module _ {A B : Type 0} (show : A → B) (seen : List ℕ → B)
-    (i : Input) (text : List ℕ) (o : plain.RunOptions) (is : IsText text) (from s : Standing) (at : is_place text s.pos ≡ true)
+    (i : Input) (text : List ℕ) (o : plain.RunOptions) (is : IsText text) (from s : Cursor) (at : is_place text s.pos ≡ true)
     (comes : ComesTo (plan i) text o from [] s) where
   abbrev answered : Option (List ℕ)
   answered = answer (search_of (plan i) text (options_at o s))
@@ -86,16 +86,16 @@ module _ {A B : Type 0} (show : A → B) (seen : List ℕ → B)
 
 -- ---- a step of the loop over searches
 
--- the list of a compiled tree came without a match from one standing to another
-pub record GoesOn (c : Compiled) (text : List ℕ) (o : plain.RunOptions) (from to : Standing) : Type 0 where
+-- the list of a compiled tree came without a match from one cursor to another
+pub record GoesOn (c : Compiled) (text : List ℕ) (o : plain.RunOptions) (from to : Cursor) : Type 0 where
   pub on : from.pos ≤ to.pos
   pub comes : (i : Input) → IsCompiledFrom i c → ComesTo (plan i) text o from [] to
 
-pub at_first : (c : Compiled) (text : List ℕ) (o : plain.RunOptions) (s : Standing) → GoesOn c text o s s
+pub at_first : (c : Compiled) (text : List ℕ) (o : plain.RunOptions) (s : Cursor) → GoesOn c text o s s
 at_first c text o s = record { on = omega arith; comes = λ i from. stays }
 
 -- a list stands here at a place, and its next search is made with the options that it is to have
-module _ (c : Compiled) (text : List ℕ) (is : IsText text) (base here : RunOptions) (from s : Standing) (at : is_place text s.pos ≡ true)
+module _ (c : Compiled) (text : List ℕ) (is : IsText text) (base here : RunOptions) (from s : Cursor) (at : is_place text s.pos ≡ true)
     (options : run_options_of here ≡ options_at (run_options_of base) s) where
   pub search_fits : run_fits (task_of (program c) [] base) ≡ true → run_fits (task_of (program c) text here) ≡ true
   search_fits fits =
@@ -108,7 +108,7 @@ module _ (c : Compiled) (text : List ℕ) (is : IsText text) (base here : RunOpt
   found_further span on = next_on text s span (subst (λ n. n ≤ span.1) (ap (λ o. o.pos) options) on.0)
 
   -- once it goes past what was found, the list stands further on
-  pub passed_on : (span : Span) → EndsOn text here.pos span → (t : Standing) → t ≡ after text s span → (s.pos < t.pos) × (s.pos ≤ length text)
+  pub passed_on : (span : Span) → EndsOn text here.pos span → (t : Cursor) → t ≡ after text s span → (s.pos < t.pos) × (s.pos ≤ length text)
   passed_on span on t to =
       let further = found_further span on in
       let moved = ap (λ u. u.pos) to in
@@ -151,7 +151,7 @@ module _ (c : Compiled) (text : List ℕ) (is : IsText text) (base here : RunOpt
 
 -- none is left where the list stands at no place
 pub none_at_end : {A B : Type 0} (show : A → B) (seen : List ℕ → B) (c : Compiled) (text : List ℕ) (is : IsText text) (o : plain.RunOptions)
-    (from to : Standing) → GoesOn c text o from to → is_place text to.pos ≡ false → (i : Input) → IsCompiledFrom i c →
+    (from to : Cursor) → GoesOn c text o from to → is_place text to.pos ≡ false → (i : Input) → IsCompiledFrom i c →
     StepsBy i text o show seen from (Ok None) to
 none_at_end show seen c text is o from to goes no_place i of =
     let none = ended_at (plan i) text o is to no_place in (comes_left (plan i) text o is (goes.comes i of) ∙ none, none)
@@ -169,7 +169,7 @@ same_twice r s t a b = (b.0 ∙ a.0, b.1 ∙ a.1)
 
 -- what its searches for the next match came to
 module _ {A B : Type 0} (show : A → B) (seen : List ℕ → B) (r : Matcher) (text : List ℕ) (is : IsText text) (here : plain.RunOptions)
-    (asked : here ≡ options_in r text) (from to : Standing) (result : Result (Option A) Error) (k : Compiled) (this : k ≡ compiled_of r)
+    (asked : here ≡ options_in r text) (from to : Cursor) (result : Result (Option A) Error) (k : Compiled) (this : k ≡ compiled_of r)
     (steps : (i : Input) → IsCompiledFrom i k → StepsBy i text here show seen from result to) where
   steps_of : (i : Input) → IsCompiledFrom i (compiled_of r) → StepsBy i text here show seen from result to
   steps_of i of = steps i (subst (IsCompiledFrom i) (sym this) of)
@@ -191,7 +191,7 @@ module _ {A B : Type 0} (show : A → B) (seen : List ℕ → B) (r : Matcher) (
       GivesBy i text o show seen from (Some (Err e)) (ended to)
   gives_error e was i o h =
       let s = steps_so (Err e) was i o h in
-      (record { standing = to; comes = s.0; fails = s.1 }, no_place_ends (plan i) text o is (ended to) is.fits)
+      (record { cursor = to; comes = s.0; fails = s.1 }, no_place_ends (plan i) text o is (ended to) is.fits)
 
   pub error_within : HasSource (compiled_of r) → (e : Error) → result ≡ Err e → from.pos ≤ length text
   error_within source e was =

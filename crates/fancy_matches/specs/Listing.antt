@@ -13,7 +13,7 @@ use Rattle.fancy_meaning.specs.Premises.{IsSpan}
 use Rattle.fancy_steps.specs.Outcomes.{first_pair}
 
 -- where a list of matches stands
-pub record Standing : Type 0 where
+pub record Cursor : Type 0 where
   -- where the next search begins; no place of the text once the list has ended
   pub pos : ℕ
   -- where the last match of the list ended
@@ -56,16 +56,16 @@ options_for o asked text = record {
 }
 
 -- before the first match
-abbrev pub at_start : Standing
+abbrev pub at_start : Cursor
 at_start = record { pos = 0; last = None }
 
 -- the list has ended: no place of a text is this far on
-abbrev pub ended : Standing → Standing
+abbrev pub ended : Cursor → Cursor
 ended s = record { pos = usize_max; last = s.last }
 
 -- The options of the next search, by those of all searches: it is continued where the last match ended, and so is the
 -- first.
-abbrev pub options_at : RunOptions → Standing → RunOptions
+abbrev pub options_at : RunOptions → Cursor → RunOptions
 options_at o s = record {
   pos = s.pos;
   anchored = o.anchored;
@@ -81,15 +81,15 @@ abbrev pub further : List ℕ → ℕ → ℕ
 further text i = option_map_or (λ j. j) (past_char text (any_takes true false) i) (suc i)
 
 -- The match is one of the list: it does not begin before its search, and it is not empty where the last match ended.
-abbrev pub is_listed : Standing → Span → Bool
+abbrev pub is_listed : Cursor → Span → Bool
 is_listed s (start, end) = nat_le s.pos start && not (start == end && is_some_and s.last (λ last. last == end))
 
 -- Where the next search begins after one that found this: where it ended, if it took something past where it and its
 -- search began, or else one character further.
-abbrev pub next_pos : List ℕ → Standing → Span → ℕ
+abbrev pub next_pos : List ℕ → Cursor → Span → ℕ
 next_pos text s (start, end) = if nat_lt (max s.pos start) end then end else further text end
 
-abbrev pub after : List ℕ → Standing → Span → Standing
+abbrev pub after : List ℕ → Cursor → Span → Cursor
 after text s span = record {
   pos = next_pos text s span;
   last = if is_listed s span then Some span.1 else s.last;
@@ -98,30 +98,30 @@ after text s span = record {
 -- a tree, a text, and the options of all its searches but where they begin
 module _ (p : Plan) (text : List ℕ) (o : RunOptions) where
   -- what the next search finds: past the text's end there is none
-  abbrev pub found_at : Standing → Option (List ℕ)
+  abbrev pub found_at : Cursor → Option (List ℕ)
   found_at s = if is_place text s.pos then answer (search_of p text (options_at o s)) else None
 
   -- the match, if it is one of the list
-  abbrev pub listed_one : Standing → List ℕ → List (List ℕ)
+  abbrev pub listed_one : Cursor → List ℕ → List (List ℕ)
   listed_one s numbers = if is_listed s (first_pair numbers) then numbers ∷ [] else []
 
-  -- The list comes from where it stands, by these matches, to another standing: each search goes past the match that it
+  -- The list comes from where it stands, by these matches, to another cursor: each search goes past the match that it
   -- found, whether that is one of the list or not.
-  pub data ComesTo : Standing → List (List ℕ) → Standing → Type 0 where
-    stays : {s : Standing} → ComesTo s [] s
-    by_match : {t : Standing} {ms : List (List ℕ)} (s : Standing) (m : List ℕ) → found_at s ≡ Some m →
+  pub data ComesTo : Cursor → List (List ℕ) → Cursor → Type 0 where
+    stays : {s : Cursor} → ComesTo s [] s
+    by_match : {t : Cursor} {ms : List (List ℕ)} (s : Cursor) (m : List ℕ) → found_at s ≡ Some m →
         is_listed s (first_pair m) ≡ true → ComesTo (after text s (first_pair m)) ms t → ComesTo s (m ∷ ms) t
-    past_match : {t : Standing} {ms : List (List ℕ)} (s : Standing) (m : List ℕ) → found_at s ≡ Some m →
+    past_match : {t : Cursor} {ms : List (List ℕ)} (s : Cursor) (m : List ℕ) → found_at s ≡ Some m →
         is_listed s (first_pair m) ≡ false → ComesTo (after text s (first_pair m)) ms t → ComesTo s ms t
 
   -- the matches of the next n searches, each by its numbers
-  unfoldable pub listed : ℕ → Standing → List (List ℕ)
+  unfoldable pub listed : ℕ → Cursor → List (List ℕ)
   listed zero s = []
   listed (suc n) s =
       option_map_or (λ m. listed_one s m ++ listed n (after text s (first_pair m))) (found_at s) []
 
   -- all that are left: each search begins further on, so there are no more than places
-  abbrev pub left : Standing → List (List ℕ)
+  abbrev pub left : Cursor → List (List ℕ)
   left s = listed (suc (length text) - s.pos) s
 
   -- the list of all matches, and of their spans

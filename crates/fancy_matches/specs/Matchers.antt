@@ -17,16 +17,16 @@ use Rattle.fancy_steps.specs.Tasks.{options_of as run_options_of}
 use Rattle.fancy_steps.specs.declared.search_limits.SearchLimit.{SearchLimit}
 use Rattle.fancy_search.specs.Searches.{Bounds, IsCompiledFrom, Promises, instructions_of}
 use Rattle.fancy_search.specs.declared.search.Compiled.{Compiled}
-use Rattle.fancy_matches.specs.Listing.{AreApart, ComesTo, Standing, all_matches, all_spans, at_start, left, options_at, options_for}
+use Rattle.fancy_matches.specs.Listing.{AreApart, ComesTo, Cursor, all_matches, all_spans, at_start, left, options_at, options_for}
 use Rattle.fancy_matches.specs.declared.found.Captures.{Captures}
 use Rattle.fancy_matches.specs.declared.found.Match.{Match}
 use Rattle.fancy_matches.specs.declared.iterators.CaptureMatches.{CaptureMatches}
 use Rattle.fancy_matches.specs.declared.iterators.Matches.{Matches}
 use Rattle.fancy_matches.specs.declared.matcher.Matcher.{Matcher}
-use Rattle.fancy_matches.specs.declared.standing.Standing as code
+use Rattle.fancy_matches.specs.declared.cursor.Cursor as code
 
-abbrev pub standing_of : code.Standing → Standing
-standing_of s = record { pos = s.pos; last = s.last }
+abbrev pub cursor_of : code.Cursor → Cursor
+cursor_of s = record { pos = s.pos; last = s.last }
 
 -- ---- what is found
 
@@ -158,23 +158,23 @@ IsNoLimitWhereEasy r text e =
 
 module _ (i : Input) (text : List ℕ) (o : plain.RunOptions) where
   -- the matches that are left where the list stands so
-  abbrev pub left_of : Standing → List (List ℕ)
+  abbrev pub left_of : Cursor → List (List ℕ)
   left_of = left (plan i) text o
 
   -- The next search of the list answers this error, as is promised, and a limit only below its bound.
-  pub record FailsAt (s : Standing) (e : Error) : Type 0 where
+  pub record FailsAt (s : Cursor) (e : Error) : Type 0 where
     pub place : is_place text s.pos ≡ true
     pub promise : Promises i text (options_at o s) (Err e)
     pub bounds : Bounds i text (options_at o s) (Err e)
 
   -- A search that the list comes to before its next match answers this error.
-  pub record FailsBy (s : Standing) (e : Error) : Type 0 where
-    pub standing : Standing
-    pub comes : ComesTo (plan i) text o s [] standing
-    pub fails : FailsAt standing e
+  pub record FailsBy (s : Cursor) (e : Error) : Type 0 where
+    pub cursor : Cursor
+    pub comes : ComesTo (plan i) text o s [] cursor
+    pub fails : FailsAt cursor e
 
   -- The list comes by one match to where it then stands, and this is what is seen of the match.
-  pub record ComesBy {B : Type 0} (seen : List ℕ → B) (s : Standing) (shown : B) (t : Standing) : Type 0 where
+  pub record ComesBy {B : Type 0} (seen : List ℕ → B) (s : Cursor) (shown : B) (t : Cursor) : Type 0 where
     pub numbers : List ℕ
     pub shows : shown ≡ seen numbers
     pub comes : ComesTo (plan i) text o s (numbers ∷ []) t
@@ -182,25 +182,25 @@ module _ (i : Input) (text : List ℕ) (o : plain.RunOptions) where
 
   -- What the searches for the next match answer, by what is shown of it, and where the list then stands: after that
   -- match; or at its end, where none is left; or, with an error, before the search that failed.
-  abbrev pub StepsBy : {A B : Type 0} → (A → B) → (List ℕ → B) → Standing → Result (Option A) Error → Standing → Type 0
+  abbrev pub StepsBy : {A B : Type 0} → (A → B) → (List ℕ → B) → Cursor → Result (Option A) Error → Cursor → Type 0
   StepsBy show seen s (Ok None) t = (left_of s ≡ []) × (left_of t ≡ [])
   StepsBy show seen s (Ok (Some x)) t = ComesBy seen s (show x) t
   StepsBy show seen s (Err e) t = ComesTo (plan i) text o s [] t × FailsAt t e
 
-  abbrev pub StepsToMatch : Standing → Result (Option Match) Error → Standing → Type 0
+  abbrev pub StepsToMatch : Cursor → Result (Option Match) Error → Cursor → Type 0
   StepsToMatch = StepsBy shown_match (with_span text)
 
   -- What the next item of a list is, and where the list then stands: the next match; or none, where none is left; or the
   -- error of a search that the list comes to before, and then the list has ended.
-  abbrev pub GivesBy : {A B : Type 0} → (A → B) → (List ℕ → B) → Standing → Option (Result A Error) → Standing → Type 0
+  abbrev pub GivesBy : {A B : Type 0} → (A → B) → (List ℕ → B) → Cursor → Option (Result A Error) → Cursor → Type 0
   GivesBy show seen s None t = (left_of s ≡ []) × (left_of t ≡ [])
   GivesBy show seen s (Some (Ok x)) t = ComesBy seen s (show x) t
   GivesBy show seen s (Some (Err e)) t = FailsBy s e × (left_of t ≡ [])
 
-  abbrev pub GivesCaptures : Standing → Option (Result Captures Error) → Standing → Type 0
+  abbrev pub GivesCaptures : Cursor → Option (Result Captures Error) → Cursor → Type 0
   GivesCaptures = GivesBy shown_captures (with_numbers text)
 
-  abbrev pub GivesMatch : Standing → Option (Result Match Error) → Standing → Type 0
+  abbrev pub GivesMatch : Cursor → Option (Result Match Error) → Cursor → Type 0
   GivesMatch = GivesBy shown_match (with_span text)
 
 -- ---- iterators
@@ -209,29 +209,29 @@ module _ (i : Input) (text : List ℕ) (o : plain.RunOptions) where
 pub record Iteration : Type 0 where
   pub matcher : MutBor Matcher
   pub text : List ℕ
-  pub standing : Standing
+  pub cursor : Cursor
 
 abbrev pub captures_iteration : CaptureMatches → Iteration
-captures_iteration s = record { matcher = s.matcher; text = s.text.now; standing = standing_of s.standing }
+captures_iteration s = record { matcher = s.matcher; text = s.text.now; cursor = cursor_of s.cursor }
 
 abbrev pub matches_iteration : Matches → Iteration
-matches_iteration s = record { matcher = s.matcher; text = s.text.now; standing = standing_of s.standing }
+matches_iteration s = record { matcher = s.matcher; text = s.text.now; cursor = cursor_of s.cursor }
 
 -- it holds this matcher, over this text, before the first match
 pub record Begins (r : MutBor Matcher) (text : List ℕ) (s : Iteration) : Type 0 where
   pub matcher : s.matcher.now ≡ r.now
   pub name : s.matcher.ghost_name ≡ r.ghost_name
   pub within : s.text ≡ text
-  pub first : s.standing ≡ at_start
+  pub first : s.cursor ≡ at_start
 
 -- The matches of the text lie between places, they do not overlap, and each ends past the one before.
 abbrev pub AreAllApart : Matcher → List ℕ → Type 0
 AreAllApart r text = (i : Input) (o : plain.RunOptions) → IsRegexOf i text o r → AreApart text None (all_spans (plan i) text o)
 
 -- so a call of the iterator steps, whatever its matcher was compiled from, and text and matcher stay
-pub record Goes {A : Type 0} (Gives : Input → List ℕ → plain.RunOptions → Standing → Standing → Type 0)
+pub record Goes {A : Type 0} (Gives : Input → List ℕ → plain.RunOptions → Cursor → Cursor → Type 0)
     (s : Iteration) (item : Option (Result A Error)) (t : Iteration) : Type 0 where
-  pub gives : (i : Input) (o : plain.RunOptions) → IsRegexOf i s.text o s.matcher.now → Gives i s.text o s.standing t.standing
+  pub gives : (i : Input) (o : plain.RunOptions) → IsRegexOf i s.text o s.matcher.now → Gives i s.text o s.cursor t.cursor
   pub easy : IfSome item (λ found. IfErr found (IsNoLimitWhereEasy s.matcher.now s.text))
   pub within : t.text ≡ s.text
   pub matcher : IsSameLoan s.matcher t.matcher
@@ -250,9 +250,9 @@ module _ (i : Input) (text : List ℕ) (o : plain.RunOptions) where
   -- a search that the list of all matches comes to answers this error
   pub record FailsInAll (e : Error) : Type 0 where
     pub gone : List (List ℕ)
-    pub standing : Standing
-    pub comes : ComesTo (plan i) text o at_start gone standing
-    pub fails : FailsAt i text o standing e
+    pub cursor : Cursor
+    pub comes : ComesTo (plan i) text o at_start gone cursor
+    pub fails : FailsAt i text o cursor e
 
   -- how many matches there are, or why that is not known
   abbrev pub Counts : Result ℕ Error → Type 0

@@ -3,9 +3,9 @@
 ghost use Rattle.std.specs.Prelude.{◌≡◌, ◌-◌, length, suc};
 ghost use Rattle.std.specs.Iterator.{at_most};
 
+use crate::cursor::Cursor;
 use crate::found::{Captures, Match};
 use crate::matcher::Matcher;
-use crate::standing::Standing;
 use fancy_expr::error::Error;
 
 /// The matches of a text from left to right, each with its groups; `Matcher::captures_iter` makes it.
@@ -16,7 +16,7 @@ use fancy_expr::error::Error;
 pub struct CaptureMatches<'r, 't> {
     pub(crate) matcher: &'r mut Matcher,
     pub(crate) text: &'t str,
-    pub(crate) standing: Standing,
+    pub(crate) cursor: Cursor,
 }
 
 impl<'r, 't> Iterator for CaptureMatches<'r, 't> {
@@ -26,10 +26,10 @@ impl<'r, 't> Iterator for CaptureMatches<'r, 't> {
 
     ghost next_gives = { NextCaptures };
 
-    ghost remaining = { λ s. at_most (suc (length s.text.now) - s.standing.pos) };
+    ghost remaining = { λ s. at_most (suc (length s.text.now) - s.cursor.pos) };
 
     fn next(&mut self) -> Option<Result<Captures<'t>, Error>> {
-        self.matcher.next_captures(self.text, &mut self.standing)
+        self.matcher.next_captures(self.text, &mut self.cursor)
     }
 }
 
@@ -39,7 +39,7 @@ impl<'r, 't> Iterator for CaptureMatches<'r, 't> {
 pub struct Matches<'r, 't> {
     pub(crate) matcher: &'r mut Matcher,
     pub(crate) text: &'t str,
-    pub(crate) standing: Standing,
+    pub(crate) cursor: Cursor,
 }
 
 impl<'r, 't> Iterator for Matches<'r, 't> {
@@ -49,9 +49,9 @@ impl<'r, 't> Iterator for Matches<'r, 't> {
 
     ghost next_gives = { NextMatch };
 
-    ghost remaining = { λ s. at_most (suc (length s.text.now) - s.standing.pos) };
+    ghost remaining = { λ s. at_most (suc (length s.text.now) - s.cursor.pos) };
 
     fn next(&mut self) -> Option<Result<Match<'t>, Error>> {
-        self.matcher.next_match(self.text, &mut self.standing)
+        self.matcher.next_match(self.text, &mut self.cursor)
     }
 }

@@ -2,9 +2,9 @@
 #![tactic(auto)]
 
 pub mod count;
+pub mod cursor;
 pub mod found;
 pub mod iterators;
 pub mod matcher;
 pub mod options;
 pub mod searches;
-pub mod standing;

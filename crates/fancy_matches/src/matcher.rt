@@ -14,11 +14,11 @@ ghost use Rattle.std.proofs.Props.{props};
 ghost use Rattle.fancy_search.specs.Searches.{HasSource, IsNestedOver, IsRefusedAs, input_of, program, search_fits};
 ghost use Rattle.fancy_matches.specs.Listing as list;
 
+use crate::cursor::Cursor;
 use crate::found::{Captures, Match};
 use crate::iterators::{CaptureMatches, Matches};
 use crate::options::MatcherOptions;
 use crate::searches::{FromSearch, next_found};
-use crate::standing::Standing;
 use fancy_expr::error::Error;
 use fancy_expr::expr::ExprTree;
 use fancy_program::threads::crosses_threads;
@@ -59,7 +59,7 @@ impl Drop for Matcher {
 }
 
 impl Matcher {
-    ghost use Rattle.fancy_matches.specs.Matchers.{AreAllApart, Begins, FindsCaptures, FindsMatch, FindsWhether, GivesBy, GivesCaptures, GivesMatch, IsMadeBy, IsNoLimitWhereEasy, IsRegexOf, IsSame, Shows, StaysIn, StaysInStep, captures_iteration, compiled_of, matches_iteration, options_in, passed_in, standing_of, work_in};
+    ghost use Rattle.fancy_matches.specs.Matchers.{AreAllApart, Begins, FindsCaptures, FindsMatch, FindsWhether, GivesBy, GivesCaptures, GivesMatch, IsMadeBy, IsNoLimitWhereEasy, IsRegexOf, IsSame, Shows, StaysIn, StaysInStep, captures_iteration, compiled_of, matches_iteration, options_in, passed_in, cursor_of, work_in};
 
     /// Analyses and compiles the tree. The caller proves that it is well-formed (`is_well_formed`), and that the options fit
     /// the empty text; so they begin at 0. Each search sets for itself where it begins, and whether it is continued.
@@ -287,21 +287,21 @@ impl Matcher {
         }
     }
 
-    /// What is reported of the next match of a list; `standing` moves after it. After an error the list has ended.
+    /// What is reported of the next match of a list; `cursor` moves after it. After an error the list has ended.
     fn next_found<'t, F: FromSearch<'t>>(
         &mut self,
         text: &'t str,
-        standing: &mut Standing,
+        cursor: &mut Cursor,
     ) -> Option<Result<F, Error>>
         ensures list { (i : Input)
             → (o : plain.RunOptions)
             → IsRegexOf i text.now o self.old
             → GivesBy i text.now o F.show (F.seen text.now)
-            (standing_of standing.old) result (standing_of standing.new) }
+            (cursor_of cursor.old) result (cursor_of cursor.new) }
         ensures further { IfSome
             result
-            (λ item. suc (length text.now) - standing.new.pos
-            < suc (length text.now) - standing.old.pos) }
+            (λ item. suc (length text.now) - cursor.new.pos
+            < suc (length text.now) - cursor.old.pos) }
         ensures easy { IfSome result (λ item. IfErr item (IsNoLimitWhereEasy self.old text.now)) }
         ensures same { IsSame self.old self.new }
         ensures stays { StaysInStep result self.new }
@@ -313,20 +313,20 @@ impl Matcher {
             &self.compiled,
             text,
             &options,
-            standing,
+            cursor,
             &mut self.scratch,
         ) {
             Ok(None) => None,
             Ok(Some(found)) => Some(Ok(found)),
             Err(error) => {
-                standing.end();
+                cursor.end();
                 Some(Err(error))
             }
         }
     }
 
-    /// Finds the next match of a list, with its groups, and moves `standing` after it. `None` means that the list has ended;
-    /// `Standing::first()` begins one.
+    /// Finds the next match of a list, with its groups, and moves `cursor` after it. `None` means that the list has ended;
+    /// `Cursor::first()` begins one.
     ///
     /// # Errors
     ///
@@ -334,25 +334,25 @@ impl Matcher {
     pub fn next_captures<'t>(
         &mut self,
         text: &'t str,
-        standing: &mut Standing,
+        cursor: &mut Cursor,
     ) -> Option<Result<Captures<'t>, Error>>
         ensures list { (i : Input)
             → (o : plain.RunOptions)
             → IsRegexOf i text.now o self.old
-            → GivesCaptures i text.now o (standing_of standing.old) result (standing_of standing.new) }
+            → GivesCaptures i text.now o (cursor_of cursor.old) result (cursor_of cursor.new) }
         ensures further { IfSome
             result
-            (λ item. suc (length text.now) - standing.new.pos
-            < suc (length text.now) - standing.old.pos) }
+            (λ item. suc (length text.now) - cursor.new.pos
+            < suc (length text.now) - cursor.old.pos) }
         ensures easy { IfSome result (λ item. IfErr item (IsNoLimitWhereEasy self.old text.now)) }
         ensures same { IsSame self.old self.new }
         ensures stays { StaysInStep result self.new }
     {
-        self.next_found(text, standing)
+        self.next_found(text, cursor)
     }
 
-    /// Finds the next match of a list, without its groups, and moves `standing` after it. `None` means that the list has
-    /// ended; `Standing::first()` begins one.
+    /// Finds the next match of a list, without its groups, and moves `cursor` after it. `None` means that the list has
+    /// ended; `Cursor::first()` begins one.
     ///
     /// # Errors
     ///
@@ -360,21 +360,21 @@ impl Matcher {
     pub fn next_match<'t>(
         &mut self,
         text: &'t str,
-        standing: &mut Standing,
+        cursor: &mut Cursor,
     ) -> Option<Result<Match<'t>, Error>>
         ensures list { (i : Input)
             → (o : plain.RunOptions)
             → IsRegexOf i text.now o self.old
-            → GivesMatch i text.now o (standing_of standing.old) result (standing_of standing.new) }
+            → GivesMatch i text.now o (cursor_of cursor.old) result (cursor_of cursor.new) }
         ensures further { IfSome
             result
-            (λ item. suc (length text.now) - standing.new.pos
-            < suc (length text.now) - standing.old.pos) }
+            (λ item. suc (length text.now) - cursor.new.pos
+            < suc (length text.now) - cursor.old.pos) }
         ensures easy { IfSome result (λ item. IfErr item (IsNoLimitWhereEasy self.old text.now)) }
         ensures same { IsSame self.old self.new }
         ensures stays { StaysInStep result self.new }
     {
-        self.next_found(text, standing)
+        self.next_found(text, cursor)
     }
 
     /// All matches from left to right, each with its groups, as an iterator. Matches do not overlap. The iterator borrows
@@ -390,7 +390,7 @@ impl Matcher {
         CaptureMatches {
             matcher: self,
             text,
-            standing: Standing::first(),
+            cursor: Cursor::first(),
         }
     }
 
@@ -413,7 +413,7 @@ impl Matcher {
         Matches {
             matcher: self,
             text,
-            standing: Standing::first(),
+            cursor: Cursor::first(),
         }
     }
 }

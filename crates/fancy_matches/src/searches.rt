@@ -9,10 +9,10 @@ ghost use Rattle.fancy_steps.specs.Tasks.{options_of as run_options_of, task_of}
 ghost use Rattle.fancy_steps.specs.Outcomes.{first_pair};
 ghost use Rattle.fancy_search.specs.Scratches.{Suits, limits_of, passed_of};
 ghost use Rattle.fancy_search.specs.Searches.{HasSource, IsCompiledFrom, program};
-ghost use Rattle.fancy_matches.specs.Matchers.{EndsOn, Shows, StepsBy, StepsToMatch, numbers_in, shown_captures, shown_match, span_of, standing_of, with_numbers, with_span};
+ghost use Rattle.fancy_matches.specs.Matchers.{EndsOn, Shows, StepsBy, StepsToMatch, numbers_in, shown_captures, shown_match, span_of, cursor_of, with_numbers, with_span};
 
+use crate::cursor::Cursor;
 use crate::found::{Captures, Match};
-use crate::standing::Standing;
 use fancy_characters::places::is_place;
 use fancy_expr::error::Error;
 use fancy_search::scratch::Scratch;
@@ -126,8 +126,8 @@ impl<'t> FromSearch<'t> for Captures<'t> {
 
 /// What is reported of the next match of a list: a `Match`, or `Captures` with all groups. `None` if the list has ended.
 ///
-/// `standing` says at which byte of the text each search begins, and whether it is continued; `options` say the rest, and
-/// fit the empty text. `standing` then moves after that match, or stays before the search that failed. `scratch` is memory
+/// `cursor` says at which byte of the text each search begins, and whether it is continued; `options` say the rest, and
+/// fit the empty text. `cursor` then moves after that match, or stays before the search that failed. `scratch` is memory
 /// that searches use again: it is new, or was used for this tree alone, or has forgotten its engine.
 ///
 /// # Errors
@@ -139,17 +139,17 @@ impl<'t> FromSearch<'t> for Captures<'t> {
 ///
 /// ```
 /// // `b+` in "abb b"
-/// let mut standing = Standing::first();
-/// let first = next_match(alloc, &compiled, text, &options, &mut standing, &mut scratch)?; // bytes 1..3
-/// let second = next_match(alloc, &compiled, text, &options, &mut standing, &mut scratch)?; // bytes 4..5
-/// let third = next_match(alloc, &compiled, text, &options, &mut standing, &mut scratch)?; // None
+/// let mut cursor = Cursor::first();
+/// let first = next_match(alloc, &compiled, text, &options, &mut cursor, &mut scratch)?; // bytes 1..3
+/// let second = next_match(alloc, &compiled, text, &options, &mut cursor, &mut scratch)?; // bytes 4..5
+/// let third = next_match(alloc, &compiled, text, &options, &mut cursor, &mut scratch)?; // None
 /// ```
 pub fn next_found<'t, F: FromSearch<'t>>(
     alloc: Global,
     compiled: &Compiled,
     text: &'t str,
     options: &RunOptions,
-    standing: &mut Standing,
+    cursor: &mut Cursor,
     scratch: &mut Scratch,
 ) -> Result<Option<F>, Error>
     requires fits { IsTrue (run_fits (task_of (program compiled.now) [] options.now)) }
@@ -158,23 +158,23 @@ pub fn next_found<'t, F: FromSearch<'t>>(
     ensures steps { (i : Input)
         → IsCompiledFrom i compiled.now
         → StepsBy i text.now (run_options_of options.now) F.show (F.seen text.now)
-        (standing_of standing.old) result (standing_of standing.new) }
+        (cursor_of cursor.old) result (cursor_of cursor.new) }
     ensures further { IfOk result (λ found. IfSome found (λ x.
-        suc (length text.now) - standing.new.pos < suc (length text.now) - standing.old.pos)) }
+        suc (length text.now) - cursor.new.pos < suc (length text.now) - cursor.old.pos)) }
     ensures limits { limits_of scratch.new ≡ limits_of scratch.old }
     ensures stays { passed_of scratch.old ≡ None → StaysWithin result (passed_of scratch.new) }
     ensures suits { Suits compiled.now scratch.new }
 {
-    'searches: while is_place(text.as_bytes(), standing.pos) {
-        let here = standing.options(options);
+    'searches: while is_place(text.as_bytes(), cursor.pos) {
+        let here = cursor.options(options);
         match F::search(alloc, compiled, text, &here, scratch)? {
             None => {
-                standing.end();
+                cursor.end();
                 return Ok(None);
             }
             Some(found) => {
                 let (start, end) = found.span();
-                if standing.pass(text, start, end) {
+                if cursor.pass(text, start, end) {
                     return Ok(Some(found));
                 }
             }
@@ -193,7 +193,7 @@ pub fn next_match<'t>(
     compiled: &Compiled,
     text: &'t str,
     options: &RunOptions,
-    standing: &mut Standing,
+    cursor: &mut Cursor,
     scratch: &mut Scratch,
 ) -> Result<Option<Match<'t>>, Error>
     requires fits { IsTrue (run_fits (task_of (program compiled.now) [] options.now)) }
@@ -202,12 +202,12 @@ pub fn next_match<'t>(
     ensures steps { (i : Input)
         → IsCompiledFrom i compiled.now
         → StepsToMatch i text.now (run_options_of options.now)
-        (standing_of standing.old) result (standing_of standing.new) }
+        (cursor_of cursor.old) result (cursor_of cursor.new) }
     ensures further { IfOk result (λ found. IfSome found (λ m.
-        suc (length text.now) - standing.new.pos < suc (length text.now) - standing.old.pos)) }
+        suc (length text.now) - cursor.new.pos < suc (length text.now) - cursor.old.pos)) }
     ensures limits { limits_of scratch.new ≡ limits_of scratch.old }
     ensures stays { passed_of scratch.old ≡ None → StaysWithin result (passed_of scratch.new) }
     ensures suits { Suits compiled.now scratch.new }
 {
-    next_found(alloc, compiled, text, options, standing, scratch)
+    next_found(alloc, compiled, text, options, cursor, scratch)
 }

@@ -10,7 +10,7 @@ use Rattle.fancy_expr.specs.declared.error.Error.TheVariants.{Memory}
 use Rattle.fancy_expr.specs.declared.error.Error.TheVariants as of_engine
 use Rattle.fancy_steps.specs.SearchLimits.{EndsBy}
 use Rattle.fancy_steps.specs.declared.search_limits.SearchLimit.{SearchLimit}
-use Rattle.fancy_matches.specs.Listing.{ComesTo, Standing, by_match, ended, options_at, past_match, stays}
+use Rattle.fancy_matches.specs.Listing.{ComesTo, Cursor, by_match, ended, options_at, past_match, stays}
 use Rattle.fancy_matches.specs.Matchers.{FailsBy, FindsCaptures as FindsGroups, GivesBy, IsNoLimit, IsNoLimitWhereEasy, Shows, passed_in, shown_captures as engine_shown, with_numbers}
 use Rattle.fancy_matches.specs.declared.found.Captures.{Captures as Groups}
 use Rattle.fancy_matches.specs.declared.matcher.Matcher as engine_regex
@@ -30,7 +30,7 @@ module _ {A B C D : Type 0} (show : A → C) (seen : List ℕ → C) (shown : B 
   search_fails e f is h = subst (λ e. Shows i text o shown seen_so (Err e)) (sym is) h
 
   -- an error of a list that is passed on
-  pub list_fails : (s t : Standing) (e : engine.Error) (f : Error) → engine_error f ≡ e →
+  pub list_fails : (s t : Cursor) (e : engine.Error) (f : Error) → engine_error f ≡ e →
       GivesBy i text o show seen s (Some (Err e)) t → GivesBy i text o shown seen_so s (Some (Err (engine_error f))) t
   list_fails s t e f is h = subst (λ e. GivesBy i text o shown seen_so s (Some (Err e)) t) (sym is) h
 
@@ -83,27 +83,27 @@ ends_without of_engine.Memory = tt
 -- ---- want of memory after a match of a list was found
 
 module _ (i : Input) (text : List ℕ) (o : plain.RunOptions) where
-  found_if : Bool → Standing → Option (List ℕ)
+  found_if : Bool → Cursor → Option (List ℕ)
   found_if b s = if b then answer (search_of (plan i) text (options_at o s)) else None
 
   -- what is found is found at a place
-  at_place : (s : Standing) (m : List ℕ) (b : Bool) → is_place text s.pos ≡ b → found_if b s ≡ Some m → is_place text s.pos ≡ true
+  at_place : (s : Cursor) (m : List ℕ) (b : Bool) → is_place text s.pos ≡ b → found_if b s ≡ Some m → is_place text s.pos ≡ true
   unfolding found_if
   at_place s m true is found = is
   at_place s m false is found = absurd (none-some m found)
 
-  memory_by : {s t : Standing} {m : List ℕ} {ms : List (List ℕ)} → ComesTo (plan i) text o s (m ∷ ms) t → FailsBy i text o s Memory
+  memory_by : {s t : Cursor} {m : List ℕ} {ms : List (List ℕ)} → ComesTo (plan i) text o s (m ∷ ms) t → FailsBy i text o s Memory
   unfolding found_if
   memory_by (by_match s m found listed rest) = record {
-    standing = s;
+    cursor = s;
     comes = stays;
     fails = record { place = at_place s m (is_place text s.pos) refl found; promise = tt; bounds = tt };
   }
   memory_by (past_match s m found listed rest) =
       let later = memory_by rest in
-      record { standing = later.standing; comes = past_match s m found listed later.comes; fails = later.fails }
+      record { cursor = later.cursor; comes = past_match s m found listed later.comes; fails = later.fails }
 
   pub list_wants_memory : {A B C D : Type 0} (show : A → C) (seen : List ℕ → C) (shown : B → D) (seen_so : List ℕ → D) → IsText text →
-      (s t : Standing) (x : A) → GivesBy i text o show seen s (Some (Ok x)) t →
+      (s t : Cursor) (x : A) → GivesBy i text o show seen s (Some (Ok x)) t →
       GivesBy i text o shown seen_so s (Some (Err Memory)) (ended t)
   list_wants_memory show seen shown seen_so is s t x h = (memory_by h.comes, no_place_ends (plan i) text o is (ended t) is.fits)

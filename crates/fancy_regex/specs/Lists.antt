@@ -3,8 +3,8 @@ use Rattle.std.specs.Prelude.{◌≡◌, List, ℕ, Option, Result, IfErr, IfOk,
 use Rattle.std.specs.Borrow.{MutBor}
 use Rattle.fancy_meaning.specs.Options as plain
 use Rattle.fancy_meaning.specs.Premises.{Input}
-use Rattle.fancy_matches.specs.Listing.{Standing, at_start}
-use Rattle.fancy_matches.specs.Matchers.{GivesBy, standing_of, with_numbers, with_span}
+use Rattle.fancy_matches.specs.Listing.{Cursor, at_start}
+use Rattle.fancy_matches.specs.Matchers.{GivesBy, cursor_of, with_numbers, with_span}
 use Rattle.fancy_regex.specs.Errors.{item_of}
 use Rattle.fancy_matches.specs.Matchers.{shown_match}
 use Rattle.fancy_regex.specs.Found.{captures_names, shown_captures}
@@ -18,10 +18,10 @@ use Rattle.fancy_regex.specs.declared.names.GroupNames.{GroupNames}
 use Rattle.fancy_regex.specs.declared.regexes.Regex.{Regex}
 
 module _ (i : Input) (text : List ℕ) (o : plain.RunOptions) where
-  abbrev pub GivesCaptures : Standing → Option (Result Captures Error) → Standing → Type 0
+  abbrev pub GivesCaptures : Cursor → Option (Result Captures Error) → Cursor → Type 0
   GivesCaptures s item t = GivesBy i text o shown_captures (with_numbers text) s (item_of item) t
 
-  abbrev pub GivesMatch : Standing → Option (Result Match Error) → Standing → Type 0
+  abbrev pub GivesMatch : Cursor → Option (Result Match Error) → Cursor → Type 0
   GivesMatch s item t = GivesBy i text o shown_match (with_span text) s (item_of item) t
 
 -- the groups have the names of the pattern
@@ -34,25 +34,25 @@ HaveNames names item = IfSome item (λ found. IfOk found (λ c. captures_names c
 pub record Iteration : Type 0 where
   pub regex : MutBor Regex
   pub text : List ℕ
-  pub standing : Standing
+  pub cursor : Cursor
 
 abbrev pub captures_iteration : CaptureMatches → Iteration
-captures_iteration s = record { regex = s.regex; text = s.text.now; standing = standing_of s.standing }
+captures_iteration s = record { regex = s.regex; text = s.text.now; cursor = cursor_of s.cursor }
 
 abbrev pub matches_iteration : Matches → Iteration
-matches_iteration s = record { regex = s.regex; text = s.text.now; standing = standing_of s.standing }
+matches_iteration s = record { regex = s.regex; text = s.text.now; cursor = cursor_of s.cursor }
 
 -- it holds this regex, over this text, before the first match
 pub record Begins (r : MutBor Regex) (text : List ℕ) (s : Iteration) : Type 0 where
   pub regex : s.regex.now ≡ r.now
   pub name : s.regex.ghost_name ≡ r.ghost_name
   pub within : s.text ≡ text
-  pub first : s.standing ≡ at_start
+  pub first : s.cursor ≡ at_start
 
 -- so a call of the iterator steps, whatever its regex was compiled from, and text and regex stay
-pub record Goes {A : Type 0} (Gives : Input → List ℕ → plain.RunOptions → Standing → Standing → Type 0)
+pub record Goes {A : Type 0} (Gives : Input → List ℕ → plain.RunOptions → Cursor → Cursor → Type 0)
     (s : Iteration) (item : Option (Result A Error)) (t : Iteration) : Type 0 where
-  pub gives : (i : Input) (o : plain.RunOptions) → IsRegexOf i s.text o s.regex.now → Gives i s.text o s.standing t.standing
+  pub gives : (i : Input) (o : plain.RunOptions) → IsRegexOf i s.text o s.regex.now → Gives i s.text o s.cursor t.cursor
   pub easy : IfSome item (λ found. IfErr found (IsNoLimitWhereEasy s.regex.now s.text))
   pub within : t.text ≡ s.text
   pub regex : IsSameLoan s.regex t.regex

@@ -7,8 +7,8 @@ ghost use Rattle.fancy_regex.specs.Lists.{NextCaptures, NextMatch};
 use crate::error::Error;
 use crate::found::Captures;
 use crate::regexes::Regex;
+use fancy_matches::cursor::Cursor;
 use fancy_matches::found::Match;
-use fancy_matches::standing::Standing;
 
 /// The matches of a text from left to right, each with its groups; [`Regex::captures_iter`] makes it.
 ///
@@ -18,7 +18,7 @@ use fancy_matches::standing::Standing;
 pub struct CaptureMatches<'r, 't> {
     pub(crate) regex: &'r mut Regex,
     pub(crate) text: &'t str,
-    pub(crate) standing: Standing,
+    pub(crate) cursor: Cursor,
 }
 
 impl<'r, 't> CaptureMatches<'r, 't> {
@@ -42,10 +42,10 @@ impl<'r, 't> Iterator for CaptureMatches<'r, 't> {
 
     ghost next_gives = { NextCaptures };
 
-    ghost remaining = { λ s. at_most (suc (length s.text.now) - s.standing.pos) };
+    ghost remaining = { λ s. at_most (suc (length s.text.now) - s.cursor.pos) };
 
     fn next(&mut self) -> Option<Result<Captures<'t>, Error>> {
-        self.regex.next_captures(self.text, &mut self.standing)
+        self.regex.next_captures(self.text, &mut self.cursor)
     }
 }
 
@@ -55,7 +55,7 @@ impl<'r, 't> Iterator for CaptureMatches<'r, 't> {
 pub struct Matches<'r, 't> {
     pub(crate) regex: &'r mut Regex,
     pub(crate) text: &'t str,
-    pub(crate) standing: Standing,
+    pub(crate) cursor: Cursor,
 }
 
 impl<'r, 't> Matches<'r, 't> {
@@ -79,9 +79,9 @@ impl<'r, 't> Iterator for Matches<'r, 't> {
 
     ghost next_gives = { NextMatch };
 
-    ghost remaining = { λ s. at_most (suc (length s.text.now) - s.standing.pos) };
+    ghost remaining = { λ s. at_most (suc (length s.text.now) - s.cursor.pos) };
 
     fn next(&mut self) -> Option<Result<Match<'t>, Error>> {
-        self.regex.next_match(self.text, &mut self.standing)
+        self.regex.next_match(self.text, &mut self.cursor)
     }
 }

@@ -6,7 +6,7 @@ ghost use Rattle.fancy_meaning.specs.Places as places;
 ghost use Rattle.fancy_meaning.specs.Premises.{Input};
 ghost use Rattle.fancy_matches.specs.Listing as list;
 ghost use Rattle.fancy_matches.specs.Matchers as engine;
-ghost use Rattle.fancy_matches.specs.Matchers.{standing_of};
+ghost use Rattle.fancy_matches.specs.Matchers.{cursor_of};
 ghost use Rattle.fancy_replace.specs.Pieces.{as_limit};
 ghost use Rattle.fancy_matches.specs.declared.matcher.Matcher as engine_regex;
 ghost use Rattle.fancy_regex.specs.Builders.{IsBuilt, IsRefused};
@@ -27,9 +27,9 @@ use crate::names::{CaptureNames, GroupNames};
 use crate::options::RegexOptions;
 use crate::replacement::Replacement;
 use fancy_expr::error::Error as EngineError;
+use fancy_matches::cursor::Cursor;
 use fancy_matches::found::{Captures as Groups, Match};
 use fancy_matches::matcher::Matcher;
-use fancy_matches::standing::Standing;
 use fancy_replace::replace::replacen;
 use std::alloc::{AllocError, Global};
 use std::borrow::CowStr;
@@ -381,8 +381,8 @@ impl Regex {
         self.captured(found)
     }
 
-    /// Finds the next match of a list, with its groups, and moves `standing` after it. `None` means that the list has
-    /// ended; `Standing::first()` begins one. [`Regex::captures_iter`] is an iterator over the same list.
+    /// Finds the next match of a list, with its groups, and moves `cursor` after it. `None` means that the list has
+    /// ended; `Cursor::first()` begins one. [`Regex::captures_iter`] is an iterator over the same list.
     ///
     /// # Errors
     ///
@@ -390,27 +390,27 @@ impl Regex {
     pub fn next_captures<'t>(
         &mut self,
         text: &'t str,
-        standing: &mut Standing,
+        cursor: &mut Cursor,
     ) -> Option<Result<Captures<'t>, Error>>
         ensures list { (i : Input)
             → (o : plain.RunOptions)
             → IsRegexOf i text.now o self.old
-            → GivesCaptures i text.now o (standing_of standing.old) result (standing_of standing.new) }
+            → GivesCaptures i text.now o (cursor_of cursor.old) result (cursor_of cursor.new) }
         ensures easy { IfSome result (λ item. IfErr item (IsNoLimitWhereEasy self.old text.now)) }
         ensures names { HaveNames (names_of self.old) result }
         ensures further { IfSome
             result
-            (λ item. suc (length text.now) - standing.new.pos
-            < suc (length text.now) - standing.old.pos) }
+            (λ item. suc (length text.now) - cursor.new.pos
+            < suc (length text.now) - cursor.old.pos) }
         ensures same { IsSame self.old self.new }
         ensures limits { TellsLimitsInStep result self.new }
     {
-        match self.engine.next_captures(text, standing) {
+        match self.engine.next_captures(text, cursor) {
             None => None,
             Some(Ok(groups)) => match self.with_names(groups) {
                 Ok(captures) => Some(Ok(captures)),
                 Err(error) => {
-                    standing.end();
+                    cursor.end();
                     Some(Err(Error::from(error)))
                 }
             },
@@ -418,8 +418,8 @@ impl Regex {
         }
     }
 
-    /// Finds the next match of a list, without its groups, and moves `standing` after it. `None` means that the list has
-    /// ended; `Standing::first()` begins one. [`Regex::find_iter`] is an iterator over the same list.
+    /// Finds the next match of a list, without its groups, and moves `cursor` after it. `None` means that the list has
+    /// ended; `Cursor::first()` begins one. [`Regex::find_iter`] is an iterator over the same list.
     ///
     /// # Errors
     ///
@@ -427,21 +427,21 @@ impl Regex {
     pub fn next_match<'t>(
         &mut self,
         text: &'t str,
-        standing: &mut Standing,
+        cursor: &mut Cursor,
     ) -> Option<Result<Match<'t>, Error>>
         ensures list { (i : Input)
             → (o : plain.RunOptions)
             → IsRegexOf i text.now o self.old
-            → GivesMatch i text.now o (standing_of standing.old) result (standing_of standing.new) }
+            → GivesMatch i text.now o (cursor_of cursor.old) result (cursor_of cursor.new) }
         ensures easy { IfSome result (λ item. IfErr item (IsNoLimitWhereEasy self.old text.now)) }
         ensures further { IfSome
             result
-            (λ item. suc (length text.now) - standing.new.pos
-            < suc (length text.now) - standing.old.pos) }
+            (λ item. suc (length text.now) - cursor.new.pos
+            < suc (length text.now) - cursor.old.pos) }
         ensures same { IsSame self.old self.new }
         ensures limits { TellsLimitsInStep result self.new }
     {
-        match self.engine.next_match(text, standing) {
+        match self.engine.next_match(text, cursor) {
             None => None,
             Some(Ok(found)) => Some(Ok(found)),
             Some(Err(error)) => Some(Err(self.told(error))),
@@ -461,7 +461,7 @@ impl Regex {
         CaptureMatches {
             regex: self,
             text,
-            standing: Standing::first(),
+            cursor: Cursor::first(),
         }
     }
 
@@ -487,7 +487,7 @@ impl Regex {
         Matches {
             regex: self,
             text,
-            standing: Standing::first(),
+            cursor: Cursor::first(),
         }
     }
 

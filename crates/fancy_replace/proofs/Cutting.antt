@@ -10,8 +10,8 @@ use Rattle.fancy_meaning.specs.Premises.{Input, IsText, plan}
 use Rattle.fancy_expr.specs.declared.error.Error.{Error}
 use Rattle.fancy_search.specs.Searches.{IsCompiledFrom}
 use Rattle.fancy_steps.specs.Outcomes.{first_pair}
-use Rattle.fancy_matches.specs.Listing.{AreApart, ComesTo, Standing, all_matches}
-use Rattle.fancy_matches.specs.Matchers.{FailsBy, GivesCaptures, IsRegexOf, captures_text, compiled_of, left_of, numbers_in, options_in, passed_in, standing_of}
+use Rattle.fancy_matches.specs.Listing.{AreApart, ComesTo, Cursor, all_matches}
+use Rattle.fancy_matches.specs.Matchers.{FailsBy, GivesCaptures, IsRegexOf, captures_text, compiled_of, left_of, numbers_in, options_in, passed_in, cursor_of}
 use Rattle.fancy_matches.specs.declared.found.Captures.{Captures}
 use Rattle.fancy_matches.specs.declared.matcher.Matcher.{Matcher}
 use Rattle.fancy_matches.proofs.Lists.{matches_apart}
@@ -65,25 +65,25 @@ stays_last s r q stays spent = ⊎_elim (λ e. inr (spent e)) (λ some. inl (sta
 -- ---- a step
 
 -- what a search answered where the text was gone through so far
-module _ (r : Matcher) (s : Cuts) (ahead : IsAhead r s) (found : Option (Result Captures Error)) (t : Standing)
-    (list : (i : Input) (o : plain.RunOptions) → IsRegexOf i s.text.now o r → GivesCaptures i s.text.now o (standing_of s.standing) found t) where
+module _ (r : Matcher) (s : Cuts) (ahead : IsAhead r s) (found : Option (Result Captures Error)) (t : Cursor)
+    (list : (i : Input) (o : plain.RunOptions) → IsRegexOf i s.text.now o r → GivesCaptures i s.text.now o (cursor_of s.cursor) found t) where
   abbrev text : List ℕ
   text = s.text.now
 
   module _ (c : Captures) (is : found ≡ Some (Ok c)) where
-    steps : (i : Input) (o : plain.RunOptions) → IsRegexOf i text o r → GivesCaptures i text o (standing_of s.standing) (Some (Ok c)) t
-    steps i o h = subst (λ x. GivesCaptures i text o (standing_of s.standing) x t) is (list i o h)
+    steps : (i : Input) (o : plain.RunOptions) → IsRegexOf i text o r → GivesCaptures i text o (cursor_of s.cursor) (Some (Ok c)) t
+    steps i o h = subst (λ x. GivesCaptures i text o (cursor_of s.cursor) x t) is (list i o h)
 
     numbers_are : (i : Input) (o : plain.RunOptions) (h : IsRegexOf i text o r) → (steps i o h).numbers ≡ numbers_in c
     numbers_are i o h = sym (ap (λ (p : List ℕ × List ℕ). p.1) (steps i o h).shows)
 
     pub next_comes : (i : Input) (o : plain.RunOptions) → IsRegexOf i text o r →
-        ComesTo (plan i) text o (standing_of s.standing) (numbers_in c ∷ []) t
+        ComesTo (plan i) text o (cursor_of s.cursor) (numbers_in c ∷ []) t
     next_comes i o h =
-        subst (λ m. ComesTo (plan i) text o (standing_of s.standing) (m ∷ []) t) (numbers_are i o h) (steps i o h).comes
+        subst (λ m. ComesTo (plan i) text o (cursor_of s.cursor) (m ∷ []) t) (numbers_are i o h) (steps i o h).comes
 
     pub next_is : (i : Input) (o : plain.RunOptions) → IsRegexOf i text o r →
-        left_of i text o (standing_of s.standing) ≡ numbers_in c ∷ left_of i text o t
+        left_of i text o (cursor_of s.cursor) ≡ numbers_in c ∷ left_of i text o t
     next_is i o h = (steps i o h).left ∙ ap (λ m. m ∷ left_of i text o t) (numbers_are i o h)
 
     pub next_text : (i : Input) (o : plain.RunOptions) → IsRegexOf i text o r → captures_text c ≡ text
@@ -112,10 +112,10 @@ module _ (r : Matcher) (s : Cuts) (ahead : IsAhead r s) (found : Option (Result 
         ∥∥₁_elim r.source (Prim.hlevel props) (λ i. (parts i.0 (options_in r text) (of_source i.0 i.1)).1.0.to)
 
   module _ (e : Error) (is : found ≡ Some (Err e)) (i : Input) (o : plain.RunOptions) (of : IsRegexOf i text o r) where
-    failed : FailsBy i text o (standing_of s.standing) e × (left_of i text o t ≡ [])
-    failed = subst (λ x. GivesCaptures i text o (standing_of s.standing) x t) is (list i o of)
+    failed : FailsBy i text o (cursor_of s.cursor) e × (left_of i text o t ≡ [])
+    failed = subst (λ x. GivesCaptures i text o (cursor_of s.cursor) x t) is (list i o of)
 
-    pub fails : FailsBy i text o (standing_of s.standing) e
+    pub fails : FailsBy i text o (cursor_of s.cursor) e
     fails = failed.0
 
     pub none_ahead : AreAhead text s.from (map first_pair (left_of i text o t))
@@ -126,8 +126,8 @@ module _ (r : Matcher) (s : Cuts) (ahead : IsAhead r s) (found : Option (Result 
 pub cuts_next : (i : Input) (o : plain.RunOptions) (s : Cuts) (c : Cut) (t : Cuts) → IsNextCut i o s c t →
     cuts_left i o s ≡ numbers_in c.captures ∷ cuts_left i o t
 cuts_next i o s c t h =
-    ap (take_limit s.limit) h.found ∙ take_limit-cons s.limit (numbers_in c.captures) (left_of i t.text.now o (standing_of t.standing)) h.within_limit
-    ∙ ap (λ limit. numbers_in c.captures ∷ take_limit limit (left_of i t.text.now o (standing_of t.standing))) (sym h.limit)
+    ap (take_limit s.limit) h.found ∙ take_limit-cons s.limit (numbers_in c.captures) (left_of i t.text.now o (cursor_of t.cursor)) h.within_limit
+    ∙ ap (λ limit. numbers_in c.captures ∷ take_limit limit (left_of i t.text.now o (cursor_of t.cursor))) (sym h.limit)
 
 pub piece_next : (i : Input) (o : plain.RunOptions) (s : Cuts) (c : Cut) (t : Cuts) → t.text.now ≡ s.text.now → IsNextCut i o s c t →
     pieces_between s.text.now s.from (cuts_left i o s) ≡ c.piece.now ∷ pieces_between t.text.now t.from (cuts_left i o t)
@@ -143,7 +143,7 @@ piece_last i o s t within h =
 pub first_pieces : (i : Input) (o : plain.RunOptions) (text : List ℕ) (most : Option ℕ) (s : Cuts) → HasAllCuts text most s →
     pieces_between s.text.now s.from (cuts_left i o s) ≡ pieces_between text 0 (take_limit most (all_matches (plan i) text o))
 first_pieces i o text most s h =
-    ap₂ (λ t from. pieces_between t from (take_limit s.limit (left_of i t o (standing_of s.standing)))) h.within h.from
+    ap₂ (λ t from. pieces_between t from (take_limit s.limit (left_of i t o (cursor_of s.cursor)))) h.within h.from
     ∙ ap₂ (λ limit from. pieces_between text 0 (take_limit limit (left_of i text o from))) h.limit h.first
 
 pub pieces_within : (text : List ℕ) (limit cuts : ℕ) (ms : List (List ℕ)) → cuts ≡ limit - 1 →

@@ -10,7 +10,7 @@ use Rattle.fancy_expr.specs.declared.error.Error.{Error}
 use Rattle.fancy_steps.specs.Outcomes.{first_pair}
 use Rattle.fancy_steps.specs.SearchLimits.{EndsBy}
 use Rattle.fancy_matches.specs.Listing.{AreApart, ComesTo, PiecesJoin, all_matches, all_spans, at_start, in_turn, part, stays}
-use Rattle.fancy_matches.specs.Matchers.{FailsBy, IsNoLimitWhereEasy, IsRegexOf, IsSame, captures_text, left_of, numbers_in, passed_in, standing_of}
+use Rattle.fancy_matches.specs.Matchers.{FailsBy, IsNoLimitWhereEasy, IsRegexOf, IsSame, captures_text, left_of, numbers_in, passed_in, cursor_of}
 use Rattle.fancy_matches.specs.declared.matcher.Matcher.{Matcher}
 use Rattle.fancy_replace.specs.Pieces.{IsBelow, as_limit, pieces_between, rewrite, take_limit}
 use Rattle.fancy_replace.specs.Replacements.{FailsAfter, KeepsBefore, WritesMatch, to_replace}
@@ -25,7 +25,7 @@ use Rattle.fancy_matches.proofs.Stepping.{of_same, same_twice}
 use Rattle.fancy_replace.proofs.Cutting.{is_spent, take_limit-cons}
 
 abbrev left_in : Input → plain.RunOptions → List ℕ → Cuts → List (List ℕ)
-left_in i o text s = take_limit s.limit (left_of i text o (standing_of s.standing))
+left_in i o text s = take_limit s.limit (left_of i text o (cursor_of s.cursor))
 
 -- pieces and what is written in turn, from where a text was gone through to
 abbrev rest_rewrite : (List ℕ → List ℕ) → List ℕ → ℕ → List (List ℕ) → List ℕ
@@ -35,7 +35,7 @@ rest_rewrite replacement text from ms = in_turn (pieces_between text from ms) (m
 pub record IsDone (i : Input) (o : plain.RunOptions) (text : List ℕ) (most : Option ℕ) (replacement : List ℕ → List ℕ)
     (s : Cuts) (out : List ℕ) (is_same : Bool) : Type 0 where
   pub gone : List (List ℕ)
-  pub comes : ComesTo (plan i) text o at_start gone (standing_of s.standing)
+  pub comes : ComesTo (plan i) text o at_start gone (cursor_of s.cursor)
   pub limit : s.limit ≡ option_map (λ n. n - length gone) most
   pub value : out ++ rest_rewrite replacement text s.from (left_in i o text s) ≡ rewrite replacement text (to_replace i o text most)
   pub fresh : is_same ≡ true → left_in i o text s ≡ to_replace i o text most
@@ -80,7 +80,7 @@ at_first r text limit replacement s out h none = let most = as_limit limit in re
   ahead = h.ahead r;
   searched = λ e. absurd (as_limit_some limit (sym h.limit ∙ e));
   done = λ i o of.
-      let all : left_of i text o (standing_of s.standing) ≡ all_matches (plan i) text o = ap (left_of i text o) h.first in
+      let all : left_of i text o (cursor_of s.cursor) ≡ all_matches (plan i) text o = ap (left_of i text o) h.first in
       let left : left_in i o text s ≡ to_replace i o text most = ap₂ take_limit h.limit all in
       record {
         gone = [];
@@ -100,15 +100,15 @@ module _ (i : Input) (o : plain.RunOptions) (text : List ℕ) (most : Option ℕ
   abbrev m : List ℕ
   m = numbers_in c.captures
 
-  found : left_of i text o (standing_of s.standing) ≡ m ∷ left_of i text o (standing_of t.standing)
+  found : left_of i text o (cursor_of s.cursor) ≡ m ∷ left_of i text o (cursor_of t.cursor)
   found =
-      ap (λ x. left_of i x o (standing_of s.standing)) (sym at) ∙ next.found
-      ∙ ap (λ x. m ∷ left_of i x o (standing_of t.standing)) to
+      ap (λ x. left_of i x o (cursor_of s.cursor)) (sym at) ∙ next.found
+      ∙ ap (λ x. m ∷ left_of i x o (cursor_of t.cursor)) to
 
   is_left : left_in i o text s ≡ m ∷ left_in i o text t
   is_left =
-      ap (take_limit s.limit) found ∙ take_limit-cons s.limit m (left_of i text o (standing_of t.standing)) next.within_limit
-      ∙ ap (λ limit. m ∷ take_limit limit (left_of i text o (standing_of t.standing))) (sym next.limit)
+      ap (take_limit s.limit) found ∙ take_limit-cons s.limit m (left_of i text o (cursor_of t.cursor)) next.within_limit
+      ∙ ap (λ limit. m ∷ take_limit limit (left_of i text o (cursor_of t.cursor))) (sym next.limit)
 
   piece_is : c.piece.now ≡ slice_range text s.from (first_pair m).0
   piece_is = next.piece ∙ ap (λ x. slice_range x s.from (first_pair m).0) at
@@ -124,7 +124,7 @@ module _ (i : Input) (o : plain.RunOptions) (text : List ℕ) (most : Option ℕ
         gone = done.gone ++ m ∷ [];
         comes =
             comes_more (plan i) text o done.comes
-            (subst (λ x. ComesTo (plan i) x o (standing_of s.standing) (m ∷ []) (standing_of t.standing)) at next.comes);
+            (subst (λ x. ComesTo (plan i) x o (cursor_of s.cursor) (m ∷ []) (cursor_of t.cursor)) at next.comes);
         limit =
             next.limit ∙ ap (option_map (λ n. n - 1)) done.limit ∙ less_more most (length done.gone)
             ∙ ap (λ k. option_map (λ n. n - k) most) (omega (arith, length-append done.gone (m ∷ [])));
@@ -142,7 +142,7 @@ module _ (i : Input) (o : plain.RunOptions) (text : List ℕ) (most : Option ℕ
     (out : List ℕ) (is_same : Bool) (at : s.text.now ≡ text) (to : t.text.now ≡ text) (none : (cuts_left i o s ≡ []) × (t.from ≡ s.from))
     (done : IsDone i o text most replacement s out is_same) where
   none_left : left_in i o text s ≡ []
-  none_left = ap (λ x. take_limit s.limit (left_of i x o (standing_of s.standing))) (sym at) ∙ none.0
+  none_left = ap (λ x. take_limit s.limit (left_of i x o (cursor_of s.cursor))) (sym at) ∙ none.0
 
   none_to_replace : is_same ≡ true → to_replace i o text most ≡ []
   none_to_replace e = sym (done.fresh e) ∙ none_left
@@ -163,15 +163,15 @@ rewrite-none text replacement ms e =
 
 fails_after : (i : Input) (o : plain.RunOptions) (text : List ℕ) (most : Option ℕ) (replacement : List ℕ → List ℕ) (s : Cuts)
     (out : List ℕ) (is_same : Bool) (e : Error) →
-    s.text.now ≡ text → (¬ (s.limit ≡ Some 0)) × FailsBy i s.text.now o (standing_of s.standing) e → IsDone i o text most replacement s out is_same →
+    s.text.now ≡ text → (¬ (s.limit ≡ Some 0)) × FailsBy i s.text.now o (cursor_of s.cursor) e → IsDone i o text most replacement s out is_same →
     FailsAfter i o text most e
 fails_after i o text most replacement s out is_same e at h done =
-    let fails = subst (λ x. FailsBy i x o (standing_of s.standing) e) at h.1 in
+    let fails = subst (λ x. FailsBy i x o (cursor_of s.cursor) e) at h.1 in
     record {
       gone = done.gone;
       below = below_limit most s.limit (length done.gone) done.limit h.0;
-      standing = fails.standing;
-      comes = subst (λ ms. ComesTo (plan i) text o at_start ms fails.standing) (append-nil done.gone)
+      cursor = fails.cursor;
+      comes = subst (λ ms. ComesTo (plan i) text o at_start ms fails.cursor) (append-nil done.gone)
           (comes_more (plan i) text o done.comes fails.comes);
       fails = fails.fails;
     }

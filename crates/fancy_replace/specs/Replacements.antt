@@ -8,7 +8,7 @@ use Rattle.fancy_meaning.specs.Premises.{Input, plan}
 use Rattle.fancy_expr.specs.declared.error.Error.{Error}
 use Rattle.fancy_expr.specs.declared.error.Error.TheVariants.{Memory}
 use Rattle.fancy_steps.specs.Outcomes.{first_pair}
-use Rattle.fancy_matches.specs.Listing.{ComesTo, Standing, all_matches, at_start, part}
+use Rattle.fancy_matches.specs.Listing.{ComesTo, Cursor, all_matches, at_start, part}
 use Rattle.fancy_matches.specs.Matchers.{FailsAt, IsNoLimitWhereEasy, IsRegexOf, IsSame, StaysIn}
 use Rattle.fancy_matches.specs.declared.matcher.Matcher.{Matcher}
 use Rattle.fancy_replace.specs.Outputs.{Grows}
@@ -23,9 +23,9 @@ module _ (i : Input) (o : plain.RunOptions) (text : List ℕ) (limit : Option �
   pub record FailsAfter (e : Error) : Type 0 where
     pub gone : List (List ℕ)
     pub below : IsBelow limit (length gone)
-    pub standing : Standing
-    pub comes : ComesTo (plan i) text o at_start gone standing
-    pub fails : FailsAt i text o standing e
+    pub cursor : Cursor
+    pub comes : ComesTo (plan i) text o at_start gone cursor
+    pub fails : FailsAt i text o cursor e
 
   -- The text with what is written for each of these matches in its place, and the text itself where there is none; or
   -- an error that a search answered, or want of memory.

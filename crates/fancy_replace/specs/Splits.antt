@@ -6,7 +6,7 @@ use Rattle.fancy_meaning.specs.Premises.{Input, plan}
 use Rattle.fancy_expr.specs.declared.error.Error.{Error}
 use Rattle.fancy_steps.specs.SearchLimits.{EndsBy}
 use Rattle.fancy_matches.specs.Listing.{ComesTo, PiecesJoin, all_matches, all_spans, at_start, in_turn, part}
-use Rattle.fancy_matches.specs.Matchers.{FailsBy, IsNoLimitWhereEasy, IsRegexOf, IsSame, passed_in, standing_of}
+use Rattle.fancy_matches.specs.Matchers.{FailsBy, IsNoLimitWhereEasy, IsRegexOf, IsSame, passed_in, cursor_of}
 use Rattle.fancy_matches.specs.declared.matcher.Matcher.{Matcher}
 use Rattle.fancy_replace.specs.Pieces.{at_most_pieces, pieces_between}
 use Rattle.fancy_replace.specs.Steps.{IsAhead, cuts_left, places_left}
@@ -37,9 +37,9 @@ module _ (i : Input) (o : plain.RunOptions) where
   StepsToPiece shown s (Some (Ok piece)) t =
       (pieces_left s ≡ shown piece ∷ pieces_left t)
       × (IsOpen t → (m : List ℕ) ×
-      ComesTo (plan i) (text_of s) o (standing_of s.cuts.standing) (m ∷ []) (standing_of t.cuts.standing))
+      ComesTo (plan i) (text_of s) o (cursor_of s.cuts.cursor) (m ∷ []) (cursor_of t.cuts.cursor))
   StepsToPiece shown s (Some (Err e)) t =
-      FailsBy i (text_of s) o (standing_of s.cuts.standing) e × (pieces_left t ≡ [])
+      FailsBy i (text_of s) o (cursor_of s.cuts.cursor) e × (pieces_left t ≡ [])
 
 -- The search for a piece passed no limit inside easy parts, or answers `Memory`; or none was made, and the matcher is as it
 -- was.
@@ -65,7 +65,7 @@ pub record HasPieces (r : Matcher) (text : List ℕ) (all : Input → plain.RunO
     Type 0 where
   pub pieces : (i : Input) (o : plain.RunOptions) → IsRegexOf i text o r → pieces_left i o s ≡ all i o
   pub within : text_of s ≡ text
-  pub first : standing_of s.cuts.standing ≡ at_start
+  pub first : cursor_of s.cuts.cursor ≡ at_start
   pub can : CanGoOn r s
 
 -- ---- iterators

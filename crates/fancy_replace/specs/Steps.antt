@@ -7,7 +7,7 @@ use Rattle.fancy_meaning.specs.Premises.{Input, IsSpan, plan}
 use Rattle.fancy_expr.specs.declared.error.Error.{Error}
 use Rattle.fancy_steps.specs.Outcomes.{first_pair}
 use Rattle.fancy_matches.specs.Listing.{ComesTo, at_start}
-use Rattle.fancy_matches.specs.Matchers.{FailsBy, IsNoLimitWhereEasy, IsRegexOf, IsSame, StaysIn, captures_text, left_of, numbers_in, passed_in, standing_of}
+use Rattle.fancy_matches.specs.Matchers.{FailsBy, IsNoLimitWhereEasy, IsRegexOf, IsSame, StaysIn, captures_text, left_of, numbers_in, passed_in, cursor_of}
 use Rattle.fancy_matches.specs.declared.matcher.Matcher.{Matcher}
 use Rattle.fancy_replace.specs.Pieces.{take_limit}
 use Rattle.fancy_replace.specs.declared.cuts.Cut.{Cut}
@@ -30,12 +30,12 @@ IsAtPlace s = is_place s.text.now s.from ≡ true
 
 -- at most so many searches find something
 abbrev pub places_left : Cuts → ℕ
-places_left s = suc (length s.text.now) - s.standing.pos
+places_left s = suc (length s.text.now) - s.cursor.pos
 
 module _ (i : Input) (o : plain.RunOptions) where
   -- the matches that are left, whatever the limit
   abbrev pub all_left : Cuts → List (List ℕ)
-  all_left s = left_of i s.text.now o (standing_of s.standing)
+  all_left s = left_of i s.text.now o (cursor_of s.cursor)
 
   -- and within it
   abbrev pub cuts_left : Cuts → List (List ℕ)
@@ -45,7 +45,7 @@ module _ (i : Input) (o : plain.RunOptions) where
   pub record IsNextCut (s : Cuts) (c : Cut) (t : Cuts) : Type 0 where
     pub within_limit : ¬ (s.limit ≡ Some 0)
     pub found : all_left s ≡ numbers_in c.captures ∷ all_left t
-    pub comes : ComesTo (plan i) s.text.now o (standing_of s.standing) (numbers_in c.captures ∷ []) (standing_of t.standing)
+    pub comes : ComesTo (plan i) s.text.now o (cursor_of s.cursor) (numbers_in c.captures ∷ []) (cursor_of t.cursor)
     pub text : captures_text c.captures ≡ s.text.now
     pub piece : c.piece.now ≡ slice_range s.text.now s.from (first_pair (numbers_in c.captures)).0
     pub from : t.from ≡ (first_pair (numbers_in c.captures)).1
@@ -55,7 +55,7 @@ module _ (i : Input) (o : plain.RunOptions) where
   abbrev pub StepsToCut : Cuts → Result (Option Cut) Error → Cuts → Type 0
   StepsToCut s (Ok None) t = (cuts_left s ≡ []) × (t.from ≡ s.from)
   StepsToCut s (Ok (Some c)) t = IsNextCut s c t
-  StepsToCut s (Err e) t = (¬ (s.limit ≡ Some 0)) × FailsBy i s.text.now o (standing_of s.standing) e
+  StepsToCut s (Err e) t = (¬ (s.limit ≡ Some 0)) × FailsBy i s.text.now o (cursor_of s.cursor) e
 
 -- the search went further on
 abbrev pub IsFurther : Cuts → Result (Option Cut) Error → Cuts → Type 0
@@ -89,5 +89,5 @@ pub record HasAllCuts (text : List ℕ) (most : Option ℕ) (s : Cuts) : Type 0 
   pub within : s.text.now ≡ text
   pub from : s.from ≡ 0
   pub limit : s.limit ≡ most
-  pub first : standing_of s.standing ≡ at_start
+  pub first : cursor_of s.cursor ≡ at_start
   pub ahead : (r : Matcher) → IsAhead r s

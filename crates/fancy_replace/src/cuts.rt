@@ -3,9 +3,9 @@
 ghost use Rattle.std.specs.Prelude.{◌≡◌, ◌-◌, ◌↔◌, IsTrue, Some, option_map};
 
 use fancy_expr::error::Error;
+use fancy_matches::cursor::Cursor;
 use fancy_matches::found::Captures;
 use fancy_matches::matcher::Matcher;
-use fancy_matches::standing::Standing;
 
 /// A match, and the piece before it, from where the last match ended.
 #[derive(Drop)]
@@ -18,7 +18,7 @@ pub(crate) struct Cut<'t> {
 #[derive(Clone, Copy, Drop)]
 pub(crate) struct Cuts<'t> {
     text: &'t str,
-    standing: Standing,
+    cursor: Cursor,
     /// Where the last match ended, and 0 before the first.
     from: usize,
     /// How many more matches are gone through, if not all.
@@ -33,7 +33,7 @@ impl<'t> Cuts<'t> {
     {
         Cuts {
             text,
-            standing: Standing::first(),
+            cursor: Cursor::first(),
             from: 0,
             limit,
         }
@@ -48,7 +48,7 @@ impl<'t> Cuts<'t> {
         if is_spent(self.limit) {
             return Ok(None);
         }
-        match matcher.next_captures(self.text, &mut self.standing) {
+        match matcher.next_captures(self.text, &mut self.cursor) {
             None => Ok(None),
             Some(Err(error)) => Err(error),
             Some(Ok(captures)) => {

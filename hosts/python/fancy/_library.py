@@ -70,7 +70,7 @@ class Outcome(Structure):
     _fields_ = [("code", c_uint32), *((name, c_size_t) for name in ("byte", "group", "count", "next"))]
 
 
-class Standing(Structure):
+class Cursor(Structure):
     """How far a list of all matches has come."""
 
     _fields_ = [("pos", c_size_t), ("last", c_size_t), ("has_last", c_bool)]
@@ -113,8 +113,8 @@ _CALLS = {
     "fancy_group_count": (c_size_t, (_PROGRAM,)),
     "fancy_group_name": (c_size_t, (_PROGRAM, c_size_t, *_ROOM)),
     "fancy_find": (Outcome, (_PROGRAM, *_TEXT, _OPTIONS, _NUMBERS, c_size_t)),
-    "fancy_find_all": (Outcome, (_PROGRAM, *_TEXT, _OPTIONS, POINTER(Standing), _NUMBERS, c_size_t)),
-    "fancy_captures_all": (Outcome, (_PROGRAM, *_TEXT, _OPTIONS, POINTER(Standing), _NUMBERS, c_size_t)),
+    "fancy_find_all": (Outcome, (_PROGRAM, *_TEXT, _OPTIONS, POINTER(Cursor), _NUMBERS, c_size_t)),
+    "fancy_captures_all": (Outcome, (_PROGRAM, *_TEXT, _OPTIONS, POINTER(Cursor), _NUMBERS, c_size_t)),
     "fancy_scanner_add": (Outcome, (_SCANNER, *_TEXT, _OPTIONS)),
     "fancy_scan": (Outcome, (_SCANNER, *_TEXT, _OPTIONS, _NUMBERS, c_size_t, _NUMBERS, c_size_t)),
     "fancy_scanner_free": (None, (_SCANNER,)),
@@ -358,7 +358,7 @@ class Program:
         return found
 
     def find_all(
-        self, text: bytes, length: int, standing: Standing, room: int, with_groups: bool
+        self, text: bytes, length: int, cursor: Cursor, room: int, with_groups: bool
     ) -> Tuple[List[List[int]], Optional[Exception], bool]:
         """Start and end of the next matches, at most `room`, in bytes, or of each of their groups; why there is no more, if
         that is an error; and whether there may be more."""
@@ -366,7 +366,7 @@ class Program:
         call, width = (_library.fancy_captures_all, 2 * self.groups) if with_groups else (_library.fancy_find_all, 2)
         spans = (c_size_t * (width * room))()
         handle.options.anchored = handle.options.not_continued = False
-        outcome = call(handle.program, text, length, handle.options, standing, spans, len(spans))
+        outcome = call(handle.program, text, length, handle.options, cursor, spans, len(spans))
         self._idle.append(handle)
         rows = [spans[at : at + width] for at in range(0, width * outcome.count, width)]
         return rows, fault_of(outcome, self.pattern), outcome.code == OK

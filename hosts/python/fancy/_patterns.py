@@ -6,7 +6,7 @@ import sys
 from typing import Any, Dict, Iterator, List, Mapping, Optional, Tuple
 
 from ._flags import RegexFlag
-from ._library import ROW_SPANS, UNSET, Options, Program, Standing
+from ._library import ROW_SPANS, UNSET, Options, Program, Cursor
 from ._rest import Group, MatchRest, PatternRest, Replacement, numbered
 from ._texts import Text, forget_texts, plain, text_of, whole_number
 
@@ -297,11 +297,11 @@ class _Range:
         """Start and end of each match, or of each group of each match, of at most `limit`. Each call has room for twice as many
         matches as the one before, so there are few calls."""
         program = self.pattern._program("search")
-        standing = Standing(self.text.byte_of(self.pos), 0, False)
+        cursor = Cursor(self.text.byte_of(self.pos), 0, False)
         most = max(1, _MOST_ROOM // (2 * program.groups if with_groups else 2))
         room, has_more = 1, True
         while has_more:
-            rows, fault, has_more = program.find_all(self.text.utf8, self.end, standing, min(room, limit), with_groups)
+            rows, fault, has_more = program.find_all(self.text.utf8, self.end, cursor, min(room, limit), with_groups)
             yield from rows
             if fault is not None:
                 raise fault

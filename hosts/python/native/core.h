@@ -32,9 +32,9 @@ struct library {
     size_t (*group_name)(struct fancy_program *, size_t, char *, size_t);
     struct fancy_outcome (*find)(struct fancy_program *, const char *, size_t, const struct fancy_options *, size_t *, size_t);
     struct fancy_outcome (*find_all)(struct fancy_program *, const char *, size_t, const struct fancy_options *,
-                                     struct fancy_standing *, size_t *, size_t);
+                                     struct fancy_cursor *, size_t *, size_t);
     struct fancy_outcome (*captures_all)(struct fancy_program *, const char *, size_t, const struct fancy_options *,
-                                         struct fancy_standing *, size_t *, size_t);
+                                         struct fancy_cursor *, size_t *, size_t);
 };
 enum { LIBRARY_CALLS = 8 };
 
@@ -144,13 +144,13 @@ struct range {
     size_t start, end;
 };
 
-/* A list of all matches in a range, of which some are in memory. Of adjacent ones `standing` says where the last one ended, and
+/* A list of all matches in a range, of which some are in memory. Of adjacent ones `cursor` says where the last one ended, and
  * whether it was empty. */
 enum { OWN_NUMBERS = 64, MOST_NUMBERS = 1 << 17, LONG_TEXT = 1 << 14 };
 struct list {
     Pattern *pattern;
     struct range range;
-    struct fancy_standing standing;
+    struct fancy_cursor cursor;
     Py_ssize_t limit;
     size_t width, room, count, at;
     struct fancy_outcome outcome;

@@ -177,7 +177,7 @@ void open_list(struct list *list, Pattern *pattern, const struct range *range, P
 {
     list->pattern = pattern;
     list->range = *range;
-    list->standing = (struct fancy_standing){range->start, 0, false};
+    list->cursor = (struct fancy_cursor){range->start, 0, false};
     list->limit = limit;
     list->width = with_groups || pattern->is_adjacent ? 2 * pattern->groups : 2;
     list->room = room > 0 ? room : OWN_NUMBERS / list->width;
@@ -204,8 +204,8 @@ static struct fancy_outcome search_on(struct list *list, struct fancy_program *p
     const struct range *range = &list->range;
 
     if (list->width == 2)
-        return library->find_all(program, range->text.utf8, range->end, options, &list->standing, list->numbers, numbers);
-    return library->captures_all(program, range->text.utf8, range->end, options, &list->standing, list->numbers, numbers);
+        return library->find_all(program, range->text.utf8, range->end, options, &list->cursor, list->numbers, numbers);
+    return library->captures_all(program, range->text.utf8, range->end, options, &list->cursor, list->numbers, numbers);
 }
 
 /* Makes room for so many numbers; what was in it is not kept. */
@@ -243,8 +243,8 @@ static bool fill_adjacent(struct list *list)
 
     if (!make_room(list, list->width))
         return false;
-    range.start = list->standing.pos;
-    if (list->standing.has_last) {
+    range.start = list->cursor.pos;
+    if (list->cursor.has_last) {
         found = compile_advance(pattern) ? find(pattern, &pattern->advance, &range, true, list->numbers) : -1;
         if (found == 0 && range.start < range.end)
             do
@@ -261,7 +261,7 @@ static bool fill_adjacent(struct list *list)
     list->count = (size_t)found;
     list->has_more = found && --list->limit > 0;
     if (found)
-        list->standing = (struct fancy_standing){list->numbers[1], 0, list->numbers[0] == list->numbers[1]};
+        list->cursor = (struct fancy_cursor){list->numbers[1], 0, list->numbers[0] == list->numbers[1]};
     list->outcome.code = FANCY_NO_MATCH;
     return true;
 }

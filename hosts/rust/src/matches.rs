@@ -27,7 +27,7 @@ struct Rows<'r, 't> {
     form: Form,
     /// How many numbers a row has.
     width: usize,
-    standing: sys::FancyStanding,
+    cursor: sys::FancyCursor,
     /// The rows that were found and not given yet.
     found: IntoIter<usize>,
     /// For how many rows the next call has room; 0 once the list has ended.
@@ -45,7 +45,7 @@ impl<'r, 't> Rows<'r, 't> {
                 Form::Span => 2,
                 Form::Groups => 2 * regex.captures_len(),
             },
-            standing: sys::FANCY_FIRST,
+            cursor: sys::FANCY_FIRST,
             found: Vec::new().into_iter(),
             room: 1,
             error: None,
@@ -57,7 +57,7 @@ impl<'r, 't> Rows<'r, 't> {
         let mut numbers = vec![0; self.room * self.width];
         let (count, why) =
             self.regex
-                .next_matches(self.form, self.text, &mut self.standing, &mut numbers);
+                .next_matches(self.form, self.text, &mut self.cursor, &mut numbers);
         numbers.truncate(count * self.width);
         self.found = numbers.into_iter();
         match why {

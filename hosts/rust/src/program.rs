@@ -138,7 +138,7 @@ impl Program {
         form: Form,
         text: &str,
         options: &Options,
-        standing: &mut sys::FancyStanding,
+        cursor: &mut sys::FancyCursor,
         spans: &mut [usize],
     ) -> (usize, Result<bool>) {
         let (at, length) = (spans.as_mut_ptr(), spans.len());
@@ -153,7 +153,7 @@ impl Program {
                 start_of(text),
                 text.len(),
                 &options.host,
-                standing,
+                cursor,
                 at,
                 length,
             )

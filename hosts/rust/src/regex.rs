@@ -260,12 +260,12 @@ impl Regex {
         &self,
         form: Form,
         text: &str,
-        standing: &mut sys::FancyStanding,
+        cursor: &mut sys::FancyCursor,
         spans: &mut [usize],
     ) -> (usize, Result<bool>) {
         let pool = &self.shared.pool;
         let found =
-            pool.with(|program| Ok(program.find_all(form, text, pool.options(), standing, spans)));
+            pool.with(|program| Ok(program.find_all(form, text, pool.options(), cursor, spans)));
         found.unwrap_or_else(|error| (0, Err(error)))
     }
 

@@ -14,11 +14,11 @@ returns-clause-finds c =
     let o = c.args.options.now in
     subst
     (λ (p : Option SearchLimit).
-    FindsAll all_groups c.args.text.now o p c.args.standing.now c.args.spans.now (tree_of c.args.program.now.handle.searcher)
-    c.captures_all-outcome.new.standing c.captures_all-outcome.new.spans c.captures_all-outcome.result)
+    FindsAll all_groups c.args.text.now o p c.args.cursor.now c.args.spans.now (tree_of c.args.program.now.handle.searcher)
+    c.captures_all-outcome.new.cursor c.captures_all-outcome.new.spans c.captures_all-outcome.result)
     (sym (ap (passed_of o) c.of.ensures))
-    (all_found_by all_groups c.args.text.now o _ c.args.standing.now c.args.spans.now c.captures_all-outcome.result c.in-Ok.text.now
-    c.captures_all-outcome.new.spans c.captures_all-outcome.new.standing (tree_of c.args.program.now.handle.searcher)
+    (all_found_by all_groups c.args.text.now o _ c.args.cursor.now c.args.spans.now c.captures_all-outcome.result c.in-Ok.text.now
+    c.captures_all-outcome.new.spans c.captures_all-outcome.new.cursor (tree_of c.args.program.now.handle.searcher)
     (tree_in c.into_searcher-searcher.result.value)
     (tree_in c.deref_mut.result.now) c.in-Ok.ensures.0 c.in-Ok.ensures.1
     (ap tree_of (sym c.take.ensures.held ∙ c.into_searcher-searcher.ensures)) (ap tree_in c.deref_mut.ensures.value) c.captures_all-outcome.ensures.lists)

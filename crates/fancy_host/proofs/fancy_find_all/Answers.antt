@@ -14,11 +14,11 @@ returns-clause-finds c =
     let o = c.args.options.now in
     subst
     (λ (p : Option SearchLimit).
-    FindsAll span_alone c.args.text.now o p c.args.standing.now c.args.spans.now (tree_of c.args.program.now.handle.searcher)
-    c.find_all-outcome.new.standing c.find_all-outcome.new.spans c.find_all-outcome.result)
+    FindsAll span_alone c.args.text.now o p c.args.cursor.now c.args.spans.now (tree_of c.args.program.now.handle.searcher)
+    c.find_all-outcome.new.cursor c.find_all-outcome.new.spans c.find_all-outcome.result)
     (sym (ap (passed_of o) c.of.ensures))
-    (all_found_by span_alone c.args.text.now o _ c.args.standing.now c.args.spans.now c.find_all-outcome.result c.in-Ok.text.now
-    c.find_all-outcome.new.spans c.find_all-outcome.new.standing (tree_of c.args.program.now.handle.searcher) (tree_in c.into_searcher-searcher.result.value)
+    (all_found_by span_alone c.args.text.now o _ c.args.cursor.now c.args.spans.now c.find_all-outcome.result c.in-Ok.text.now
+    c.find_all-outcome.new.spans c.find_all-outcome.new.cursor (tree_of c.args.program.now.handle.searcher) (tree_in c.into_searcher-searcher.result.value)
     (tree_in c.deref_mut.result.now) c.in-Ok.ensures.0 c.in-Ok.ensures.1
     (ap tree_of (sym c.take.ensures.held ∙ c.into_searcher-searcher.ensures)) (ap tree_in c.deref_mut.ensures.value) c.find_all-outcome.ensures.lists)
 

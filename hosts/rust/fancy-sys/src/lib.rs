@@ -80,14 +80,14 @@ pub struct FancyOutcome {
 /// How far a list of all matches has come.
 #[repr(C)]
 #[derive(Clone, Copy, Debug, PartialEq, Eq)]
-pub struct FancyStanding {
+pub struct FancyCursor {
     pub pos: usize,
     pub last: usize,
     pub has_last: bool,
 }
 
 /// The start of a list, at the start of the text.
-pub const FANCY_FIRST: FancyStanding = FancyStanding {
+pub const FANCY_FIRST: FancyCursor = FancyCursor {
     pos: 0,
     last: 0,
     has_last: false,
@@ -202,7 +202,7 @@ extern "C" {
         text: *const c_char,
         text_length: usize,
         options: *const FancyOptions,
-        standing: *mut FancyStanding,
+        cursor: *mut FancyCursor,
         spans: *mut usize,
         spans_length: usize,
     ) -> FancyOutcome;
@@ -212,7 +212,7 @@ extern "C" {
         text: *const c_char,
         text_length: usize,
         options: *const FancyOptions,
-        standing: *mut FancyStanding,
+        cursor: *mut FancyCursor,
         spans: *mut usize,
         spans_length: usize,
     ) -> FancyOutcome;

@@ -6,7 +6,7 @@ use Rattle.fancy_meaning.specs.Places.{is_place}
 use Rattle.fancy_meaning.specs.Premises.{IsText}
 use Rattle.fancy_search.specs.Scratches.{passed_of}
 use Rattle.fancy_steps.specs.Tasks.{options_of as run_options_of}
-use Rattle.fancy_matches.specs.Matchers.{captures_text, numbers_in, standing_of}
+use Rattle.fancy_matches.specs.Matchers.{captures_text, numbers_in, cursor_of}
 use Rattle.fancy_host.proofs.LimitsPassed.{stays_so}
 use Rattle.fancy_host.proofs.TextRewritten.{GoesOn, at_first, ends_by_limit, ends_by_none, fails_by, goes_further, next_begins, next_starts_at_place, rest_is}
 use Rattle.fancy_host.proofs.rewriting.rewrite.Goals as goal
@@ -20,7 +20,7 @@ loop-count-init g c =
         c.new-out.ensures,
         (
           at_first c.args.compiled.now text (run_options_of c.args.options.now) c.args.limit (g.R.Replacer.replacement_text c.args.replacement.now)
-              (record { utf8 = c.utf8.text; fits = small }) [] refl (standing_of c.first-standing.result) c.first-standing.ensures,
+              (record { utf8 = c.utf8.text; fits = small }) [] refl (cursor_of c.first-cursor.result) c.first-cursor.ensures,
           (c.requires.passed, (refl, c.requires.suits)),
         ),
       ),
@@ -40,7 +40,7 @@ range-requires-clause-start_le_end g c =
     let is : IsText text = record { utf8 = c.utf8.text; fits = small } in
     subst (λ n. l.from ≤ n) (sym (c.start.ensures ∙ ap (λ p. p.0) c.whole-whole.ensures.span))
     (next_begins c.args.compiled.now text (run_options_of c.args.options.now) c.args.limit (g.R.Replacer.replacement_text c.args.replacement.now) is
-    c.requires.source l.count (standing_of l.standing) (standing_of c.next_found.new.standing) l.from l.invariant.0 l.invariant.1.1.0
+    c.requires.source l.count (cursor_of l.cursor) (cursor_of c.next_found.new.cursor) l.from l.invariant.0 l.invariant.1.1.0
     c.next_found.result c.next_found.ensures.steps c.in-Some.captures (c.in_ok-next_found.was ∙ ap Ok c.in-Some.is))
 
 pub range-requires-clause-start_boundary : goal.range-requires-clause-start_boundary
@@ -56,7 +56,7 @@ range-requires-clause-end_boundary g c =
     (subst (λ n. is_place text n ≡ true) (sym (c.start.ensures ∙ ap (λ p. p.0) c.whole-whole.ensures.span))
     (next_starts_at_place c.args.compiled.now text (run_options_of c.args.options.now) c.args.limit
     (g.R.Replacer.replacement_text c.args.replacement.now) is
-    c.requires.source l.count (standing_of l.standing) (standing_of c.next_found.new.standing) l.from l.invariant.0 l.invariant.1.1.0
+    c.requires.source l.count (cursor_of l.cursor) (cursor_of c.next_found.new.cursor) l.from l.invariant.0 l.invariant.1.1.0
     c.next_found.result c.next_found.ensures.steps c.in-Some.captures (c.in_ok-next_found.was ∙ ap Ok c.in-Some.is)))
 
 pub returns-in_err-next_found-clause-rewrites : goal.returns-in_err-next_found-clause-rewrites
@@ -70,7 +70,7 @@ returns-in_err-next_found-clause-rewrites g c =
     let p = err_from_is_err_and c.from_residual.result c.from_residual.ensures.1 in
     rw (p.1, p.2)
     (inl (fails_by c.args.compiled.now text (run_options_of c.args.options.now) c.args.limit (g.R.Replacer.replacement_text c.args.replacement.now) is
-    c.requires.source l.count (standing_of l.standing) (standing_of c.next_found.new.standing) l.from l.invariant.0 l.invariant.1.1.0
+    c.requires.source l.count (cursor_of l.cursor) (cursor_of c.next_found.new.cursor) l.from l.invariant.0 l.invariant.1.1.0
     c.next_found.result c.next_found.ensures.steps c.in_err-next_found.field-0.0 c.in_err-next_found.was below))
 
 pub returns-in-None-clause-rewrites : goal.returns-in-None-clause-rewrites
@@ -86,7 +86,7 @@ returns-in-None-clause-rewrites g c =
       is =
           ends_by_none c.args.compiled.now text (run_options_of c.args.options.now) c.args.limit
           (g.R.Replacer.replacement_text c.args.replacement.now) is
-          c.requires.source l.count (standing_of l.standing) (standing_of c.next_found.new.standing) l.from out l.invariant.1.1.0
+          c.requires.source l.count (cursor_of l.cursor) (cursor_of c.next_found.new.cursor) l.from out l.invariant.1.1.0
           c.next_found.result c.next_found.ensures.steps (c.in_ok-next_found.was ∙ ap Ok c.in-None.is) (out ++ rest) rest refl
           (c.range_from.ensures.value ∙ rest_is text l.from);
       holds = c.in_ok-with_rest-in-None.ensures c.args.room out l.invariant.1.0;
@@ -111,7 +111,7 @@ loop-count-preserved g c =
         (
           goes_further c.args.compiled.now text (run_options_of c.args.options.now) c.args.limit
               (g.R.Replacer.replacement_text c.args.replacement.now) is
-              c.requires.source l.count (standing_of l.standing) (standing_of c.next_found.new.standing) l.from out l.invariant.1.1.0
+              c.requires.source l.count (cursor_of l.cursor) (cursor_of c.next_found.new.cursor) l.from out l.invariant.1.1.0
               c.next_found.result c.next_found.ensures.steps x (c.in_ok-next_found.was ∙ ap Ok c.in-Some.is) below piece
               more c.end-from.result (c.end-from.ensures ∙ ap (λ p. p.1) span)
               (c.range.ensures.value ∙ ap (λ n. slice_range text l.from n) (c.start.ensures ∙ ap (λ p. p.0) span)) refl,
@@ -138,8 +138,8 @@ returns-clause-rewrites g c =
     record {
       new = out ++ rest;
       is =
-          ends_by_limit c.args.compiled.now text o c.args.limit write is (standing_of l.standing) l.from out
-          (subst (λ k. GoesOn c.args.compiled.now text o c.args.limit write k (standing_of l.standing) l.from out)
+          ends_by_limit c.args.compiled.now text o c.args.limit write is (cursor_of l.cursor) l.from out
+          (subst (λ k. GoesOn c.args.compiled.now text o c.args.limit write k (cursor_of l.cursor) l.from out)
           (all ∙ c.most_of-most.ensures) l.invariant.1.1.0)
           (out ++ rest) rest refl (c.range_from-2.ensures.value ∙ rest_is text l.from);
       holds = c.in_ok-with_rest.ensures c.args.room out l.invariant.1.0;

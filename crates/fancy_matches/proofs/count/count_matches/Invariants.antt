@@ -9,4 +9,4 @@ invariant-matches l =
     × (l.matches.matcher.ghost_name ≡ l.initial.matches.matcher.ghost_name)
 
 abbrev pub decreases-matches : goal.decreases-matches
-decreases-matches l = suc (length l.matches.text.now) - l.matches.standing.pos
+decreases-matches l = suc (length l.matches.text.now) - l.matches.cursor.pos

@@ -8,13 +8,13 @@ use Rattle.fancy_steps.specs.Outcomes.{first_pair}
 use Rattle.fancy_steps.specs.Tasks.{options_of as run_options_of}
 use Rattle.fancy_search.specs.Searches.{IsCompiledFrom}
 use Rattle.fancy_matches.specs.Listing.{after, is_listed}
-use Rattle.fancy_matches.specs.Matchers.{EndsOn, Shows, StepsBy, standing_of}
+use Rattle.fancy_matches.specs.Matchers.{EndsOn, Shows, StepsBy, cursor_of}
 use Rattle.fancy_matches.proofs.Stepping.{GoesOn, at_first, found_further, none_at_end, passed_on, search_error, search_fits, search_listed, search_none, search_past}
 use Rattle.fancy_matches.proofs.searches.next_found.Goals as goal
 
 pub searches-init : goal.searches-init
 searches-init g c = record {
-  goes = at_first c.args.compiled.now c.args.text.now (run_options_of c.args.options.now) (standing_of c.args.standing.now);
+  goes = at_first c.args.compiled.now c.args.text.now (run_options_of c.args.options.now) (cursor_of c.args.cursor.now);
   limits = refl;
   stays = λ none. none;
   suits = c.requires.suits;
@@ -25,8 +25,8 @@ search-requires g c k =
     let compiled = c.args.compiled.now in
     let text = c.args.text.now in
     let base = c.args.options.now in
-    let from = standing_of c.args.standing.now in
-    let st = standing_of c.searches.standing in
+    let from = cursor_of c.args.cursor.now in
+    let st = cursor_of c.searches.cursor in
     let at = sym (subst (λ t. true ≡ is_place t st.pos) c.as_bytes.ensures.value c.searches-test.ensures) in
     let small : length text < usize_max = omega arith in
     let is : IsText text = record { utf8 = c.utf8.text; fits = small } in
@@ -38,8 +38,8 @@ returns-in_err-search-clause-steps g c =
     let compiled = c.args.compiled.now in
     let text = c.args.text.now in
     let base = c.args.options.now in
-    let from = standing_of c.args.standing.now in
-    let st = standing_of c.searches.standing in
+    let from = cursor_of c.args.cursor.now in
+    let st = cursor_of c.searches.cursor in
     let at = sym (subst (λ t. true ≡ is_place t st.pos) c.as_bytes.ensures.value c.searches-test.ensures) in
     let small : length text < usize_max = omega arith in
     let is : IsText text = record { utf8 = c.utf8.text; fits = small } in
@@ -55,8 +55,8 @@ returns-in-None-clause-steps g c =
     let compiled = c.args.compiled.now in
     let text = c.args.text.now in
     let base = c.args.options.now in
-    let from = standing_of c.args.standing.now in
-    let st = standing_of c.searches.standing in
+    let from = cursor_of c.args.cursor.now in
+    let st = cursor_of c.searches.cursor in
     let at = sym (subst (λ t. true ≡ is_place t st.pos) c.as_bytes.ensures.value c.searches-test.ensures) in
     let small : length text < usize_max = omega arith in
     let is : IsText text = record { utf8 = c.utf8.text; fits = small } in
@@ -81,8 +81,8 @@ returns-then-pass-clause-steps g c =
     let compiled = c.args.compiled.now in
     let text = c.args.text.now in
     let base = c.args.options.now in
-    let from = standing_of c.args.standing.now in
-    let st = standing_of c.searches.standing in
+    let from = cursor_of c.args.cursor.now in
+    let st = cursor_of c.searches.cursor in
     let at = sym (subst (λ t. true ≡ is_place t st.pos) c.as_bytes.ensures.value c.searches-test.ensures) in
     let small : length text < usize_max = omega arith in
     let is : IsText text = record { utf8 = c.utf8.text; fits = small } in
@@ -102,30 +102,30 @@ returns-then-pass-clause-steps g c =
 pub returns-then-pass-clause-further : goal.returns-then-pass-clause-further
 returns-then-pass-clause-further g c =
     let text = c.args.text.now in
-    let st = standing_of c.searches.standing in
+    let st = cursor_of c.searches.cursor in
     let at = sym (subst (λ t. true ≡ is_place t st.pos) c.as_bytes.ensures.value c.searches-test.ensures) in
     let small : length text < usize_max = omega arith in
     let is : IsText text = record { utf8 = c.utf8.text; fits = small } in
     let here = c.options-here.result in
     let span = g.F.FromSearch.span c.in-Some.found in
     let on = subst (λ f. IfSome f (λ x. EndsOn text here.pos (g.F.FromSearch.span x))) c.in-Some.is c.in_ok-search.ensures.on in
-    let passed = passed_on c.args.compiled.now text is c.args.options.now here (standing_of c.args.standing.now) st at c.options-here.ensures span on
-    (standing_of c.pass.new.self) (c.pass.ensures.after ∙ ap (after text st) c.span-start.ensures) in
+    let passed = passed_on c.args.compiled.now text is c.args.options.now here (cursor_of c.args.cursor.now) st at c.options-here.ensures span on
+    (cursor_of c.pass.new.self) (c.pass.ensures.after ∙ ap (after text st) c.span-start.ensures) in
     let so_far = c.searches.invariant.goes.on in
     omega (arith, passed.0, passed.1, so_far)
 
 pub searches-smaller : goal.searches-smaller
 searches-smaller g c =
     let text = c.args.text.now in
-    let st = standing_of c.searches.standing in
+    let st = cursor_of c.searches.cursor in
     let at = sym (subst (λ t. true ≡ is_place t st.pos) c.as_bytes.ensures.value c.searches-test.ensures) in
     let small : length text < usize_max = omega arith in
     let is : IsText text = record { utf8 = c.utf8.text; fits = small } in
     let here = c.options-here.result in
     let span = g.F.FromSearch.span c.in-Some.found in
     let on = subst (λ f. IfSome f (λ x. EndsOn text here.pos (g.F.FromSearch.span x))) c.in-Some.is c.in_ok-search.ensures.on in
-    let passed = passed_on c.args.compiled.now text is c.args.options.now here (standing_of c.args.standing.now) st at c.options-here.ensures span on
-    (standing_of c.pass.new.self) (c.pass.ensures.after ∙ ap (after text st) c.span-start.ensures) in
+    let passed = passed_on c.args.compiled.now text is c.args.options.now here (cursor_of c.args.cursor.now) st at c.options-here.ensures span on
+    (cursor_of c.pass.new.self) (c.pass.ensures.after ∙ ap (after text st) c.span-start.ensures) in
     omega (arith, passed.0, passed.1)
 
 pub searches-preserved : goal.searches-preserved
@@ -133,8 +133,8 @@ searches-preserved g c =
     let compiled = c.args.compiled.now in
     let text = c.args.text.now in
     let base = c.args.options.now in
-    let from = standing_of c.args.standing.now in
-    let st = standing_of c.searches.standing in
+    let from = cursor_of c.args.cursor.now in
+    let st = cursor_of c.searches.cursor in
     let at = sym (subst (λ t. true ≡ is_place t st.pos) c.as_bytes.ensures.value c.searches-test.ensures) in
     let small : length text < usize_max = omega arith in
     let is : IsText text = record { utf8 = c.utf8.text; fits = small } in
@@ -168,9 +168,9 @@ returns-in_err-search-clause-stays g c none =
 pub returns-clause-steps : goal.returns-clause-steps
 returns-clause-steps g c =
     let text = c.args.text.now in
-    let st = standing_of c.searches.standing in
+    let st = cursor_of c.searches.cursor in
     let small : length text < usize_max = omega arith in
     let is : IsText text = record { utf8 = c.utf8.text; fits = small } in
     let no_place = sym (subst (λ t. false ≡ is_place t st.pos) c.as_bytes.ensures.value c.searches-test.ensures) in
     none_at_end g.F.FromSearch.show (g.F.FromSearch.seen text) c.args.compiled.now text is (run_options_of c.args.options.now)
-    (standing_of c.args.standing.now) st c.searches.invariant.goes no_place
+    (cursor_of c.args.cursor.now) st c.searches.invariant.goes no_place

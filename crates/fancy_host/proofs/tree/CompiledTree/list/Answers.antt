@@ -5,7 +5,7 @@ use Rattle.fancy_search.specs.Searches.{program}
 use Rattle.fancy_search.specs.Scratches.{passed_of}
 use Rattle.fancy_matches.specs.Matchers as matches
 use Rattle.fancy_host.specs.Hosted.{compiled_of, passed_in}
-use Rattle.fancy_host.specs.Lists.{Lists, Writes, does_not_fit, listed, listing, standing_of, width_of}
+use Rattle.fancy_host.specs.Lists.{Lists, Writes, does_not_fit, listed, listing, cursor_of, width_of}
 use Rattle.fancy_host.proofs.LimitsPassed.{passed_so}
 use Rattle.fancy_host.proofs.tree.CompiledTree.list.Goals as goal
 
@@ -15,7 +15,7 @@ returns-then-not-fits-clause-lists g c =
     let s = c.args.self.now in
     let text = c.args.text.now in
     let o = c.args.options.now in
-    let from = c.args.standing.now in
+    let from = c.args.cursor.now in
     let old = c.args.room.now in
     let no = sym c.fits.ensures ∙ c.if-not-fits.true in
     subst (λ x. Lists form s text o (passed_in o c.args.scratch.now) from old from old x) (sym c.unfit.ensures)
@@ -34,7 +34,7 @@ returns-clause-lists g c =
     let old = c.args.room.now in
     let new = c.write_rows-outcome.new.room in
     let outcome = c.write_rows-outcome.result in
-    let to = matches.standing_of c.write_rows-outcome.new.standing in
+    let to = matches.cursor_of c.write_rows-outcome.new.cursor in
     let width = c.args.width in
     let fits = sym c.fits.ensures ∙ c.if-not-fits.false in
     let scratch = c.write_rows-outcome.new.scratch in
@@ -42,11 +42,11 @@ returns-clause-lists g c =
     let limits_are = c.write_rows-outcome.ensures.limits ∙ (c.limit.ensures.limits ∙ c.limits.ensures) in
     listed
     (subst (λ r. run_fits (record { program = prog_of (program (compiled_of s)); text = []; options = r }) ≡ true) c.listing-listing.ensures fits)
-    (subst (λ p. Writes form (width_of form s) (compiled_of s) text (listing o text) p (standing_of c.args.standing.now) old (standing_of c.of.result) new outcome)
+    (subst (λ p. Writes form (width_of form s) (compiled_of s) text (listing o text) p (cursor_of c.args.cursor.now) old (cursor_of c.of.result) new outcome)
     (passed_so o scratch limits_are)
-    (subst (λ w. Writes form w (compiled_of s) text (listing o text) passed (standing_of c.args.standing.now) old (standing_of c.of.result) new outcome)
+    (subst (λ w. Writes form w (compiled_of s) text (listing o text) passed (cursor_of c.args.cursor.now) old (cursor_of c.of.result) new outcome)
     c.requires.width
-    (subst (λ t. Writes form width (compiled_of s) text (listing o text) passed (standing_of c.args.standing.now) old t new outcome) (sym c.of.ensures)
-    (subst (λ from. Writes form width (compiled_of s) text (listing o text) passed from old to new outcome) c.standing-list.ensures
-    (subst (λ r. Writes form width (compiled_of s) text r passed (matches.standing_of c.standing-list.result) old to new outcome) c.listing-listing.ensures
+    (subst (λ t. Writes form width (compiled_of s) text (listing o text) passed (cursor_of c.args.cursor.now) old t new outcome) (sym c.of.ensures)
+    (subst (λ from. Writes form width (compiled_of s) text (listing o text) passed from old to new outcome) c.cursor-list.ensures
+    (subst (λ r. Writes form width (compiled_of s) text r passed (matches.cursor_of c.cursor-list.result) old to new outcome) c.listing-listing.ensures
     c.write_rows-outcome.ensures.writes)))))

@@ -3,7 +3,7 @@ use Rattle.fancy_meaning.specs.Numbers.{usize_max}
 use Rattle.fancy_meaning.specs.Premises.{IsText}
 use Rattle.fancy_search.specs.Scratches.{passed_of}
 use Rattle.fancy_steps.specs.Tasks.{options_of as run_options_of}
-use Rattle.fancy_matches.specs.Matchers.{standing_of}
+use Rattle.fancy_matches.specs.Matchers.{cursor_of}
 use Rattle.fancy_host.specs.Codes.{no_match, ok}
 use Rattle.fancy_host.specs.Hosted.{coded, compiled_of, failure_by, with_count}
 use Rattle.fancy_host.proofs.LimitsPassed.{stays_so}
@@ -14,7 +14,7 @@ use Rattle.fancy_host.proofs.tree.CompiledTree.write_rows.Goals as goal
 pub rows-init : goal.rows-init
 rows-init g c = (
   none_written g.F.Row.form c.args.width (compiled_of c.args.self.now) c.args.text.now (run_options_of c.args.options.now)
-      (standing_of c.args.standing.now) c.args.room.now,
+      (cursor_of c.args.cursor.now) c.args.room.now,
   refl,
   c.requires.passed,
   refl,
@@ -28,11 +28,11 @@ returns-in-Ok-None-clause-writes g c =
     let compiled = compiled_of c.args.self.now in
     let text = c.args.text.now in
     let o = run_options_of c.args.options.now in
-    let from = standing_of c.args.standing.now in
+    let from = cursor_of c.args.cursor.now in
     let old = c.args.room.now in
     let l = c.rows in
-    let at = standing_of l.standing in
-    let to = standing_of c.next_found.new.standing in
+    let at = cursor_of l.cursor in
+    let to = cursor_of c.next_found.new.cursor in
     let w = l.invariant.0 in
     let small : length text < usize_max = omega arith in
     let is : IsText text = record { utf8 = c.utf8.text; fits = small } in
@@ -53,11 +53,11 @@ returns-in-Err-clause-writes g c =
     let compiled = compiled_of c.args.self.now in
     let text = c.args.text.now in
     let o = run_options_of c.args.options.now in
-    let from = standing_of c.args.standing.now in
+    let from = cursor_of c.args.cursor.now in
     let old = c.args.room.now in
     let l = c.rows in
-    let at = standing_of l.standing in
-    let to = standing_of c.next_found.new.standing in
+    let at = cursor_of l.cursor in
+    let to = cursor_of c.next_found.new.cursor in
     let w = l.invariant.0 in
     let small : length text < usize_max = omega arith in
     let is : IsText text = record { utf8 = c.utf8.text; fits = small } in
@@ -79,11 +79,11 @@ rows-preserved g c =
     let compiled = compiled_of s in
     let text = c.args.text.now in
     let o = run_options_of c.args.options.now in
-    let from = standing_of c.args.standing.now in
+    let from = cursor_of c.args.cursor.now in
     let old = c.args.room.now in
     let l = c.rows in
-    let at = standing_of l.standing in
-    let to = standing_of c.next_found.new.standing in
+    let at = cursor_of l.cursor in
+    let to = cursor_of c.next_found.new.cursor in
     let w = l.invariant.0 in
     let small : length text < usize_max = omega arith in
     let is : IsText text = record { utf8 = c.utf8.text; fits = small } in
@@ -113,10 +113,10 @@ returns-clause-writes g c =
     let compiled = compiled_of c.args.self.now in
     let text = c.args.text.now in
     let o = run_options_of c.args.options.now in
-    let from = standing_of c.args.standing.now in
+    let from = cursor_of c.args.cursor.now in
     let old = c.args.room.now in
     let l = c.rows in
-    let at = standing_of l.standing in
+    let at = cursor_of l.cursor in
     let w = l.invariant.0 in
     let same = l.invariant.1 in
     writes_so form width compiled text o from old l.count l.at at at l.room w (passed_of l.scratch) (coded ok) c.with_count-2.result

@@ -1,7 +1,7 @@
 use Rattle.std.proofs.Common.{◌<◌, ◌-◌, suc, length, Some, Ok, Err, IfErr, IfSome, ap, ◌∙◌, sym, subst, arith}
 use Rattle.fancy_meaning.specs.Numbers.{usize_max}
 use Rattle.fancy_matches.specs.Listing.{ended}
-use Rattle.fancy_matches.specs.Matchers.{GivesBy, IsNoLimitWhereEasy, StaysInStep, shown_captures as engine_shown, standing_of, with_numbers}
+use Rattle.fancy_matches.specs.Matchers.{GivesBy, IsNoLimitWhereEasy, StaysInStep, shown_captures as engine_shown, cursor_of, with_numbers}
 use Rattle.fancy_regex.specs.Errors.{engine_error, limit_told}
 use Rattle.fancy_regex.specs.Found.{shown_captures}
 use Rattle.fancy_regex.proofs.Replies.{easy_error, easy_memory, list_fails, list_wants_memory}
@@ -10,15 +10,15 @@ use Rattle.fancy_regex.proofs.regexes.Regex.next_captures.Goals as goal
 pub returns-in-None-clause-list : goal.returns-in-None-clause-list
 returns-in-None-clause-list c i o h =
     let text = c.args.text.now in
-    let from = standing_of c.args.standing.now in
-    let to = standing_of c.next_captures.new.standing in
+    let from = cursor_of c.args.cursor.now in
+    let to = cursor_of c.next_captures.new.cursor in
     subst (λ item. GivesBy i text o engine_shown (with_numbers text) from item to) c.in-None.is (c.next_captures.ensures.list i o h)
 
 pub returns-in-Ok-clause-list : goal.returns-in-Ok-clause-list
 returns-in-Ok-clause-list c i o h =
     let text = c.args.text.now in
-    let from = standing_of c.args.standing.now in
-    let to = standing_of c.next_captures.new.standing in
+    let from = cursor_of c.args.cursor.now in
+    let to = cursor_of c.next_captures.new.cursor in
     subst (λ g. GivesBy i text o engine_shown (with_numbers text) from (Some (Ok g)) to) (sym c.in-Ok.ensures.0)
     (subst (λ item. GivesBy i text o engine_shown (with_numbers text) from item to) (c.in-Some-Ok.is ∙ ap Some c.in-Some-Ok.field-0-is)
     (c.next_captures.ensures.list i o h))
@@ -27,8 +27,8 @@ pub returns-in-Err-clause-list : goal.returns-in-Err-clause-list
 returns-in-Err-clause-list c i o h =
     let text = c.args.text.now in
     let small : length text < usize_max = omega arith in
-    let from = standing_of c.args.standing.now in
-    let to = standing_of c.next_captures.new.standing in
+    let from = cursor_of c.args.cursor.now in
+    let to = cursor_of c.next_captures.new.cursor in
     subst (λ t. GivesBy i text o shown_captures (with_numbers text) from (Some (Err (engine_error c.from.result))) t) (sym c.end.ensures)
     (subst (λ e. GivesBy i text o shown_captures (with_numbers text) from (Some (Err (engine_error e))) (ended to)) (sym c.from.ensures)
     (list_wants_memory i text o engine_shown (with_numbers text) shown_captures (with_numbers text) (record { utf8 = c.utf8.text; fits = small }) from to
@@ -40,8 +40,8 @@ pub returns-in-Err-clause-further : goal.returns-in-Err-clause-further
 returns-in-Err-clause-further c =
     let text = c.args.text.now in
     let small : length text < usize_max = omega arith in
-    let at = c.next_captures.new.standing.pos in
-    let further = subst (λ item. IfSome item (λ _. suc (length text) - at < suc (length text) - c.args.standing.now.pos))
+    let at = c.next_captures.new.cursor.pos in
+    let further = subst (λ item. IfSome item (λ _. suc (length text) - at < suc (length text) - c.args.cursor.now.pos))
     c.in-Some-Ok.is c.next_captures.ensures.further in
     let ends = ap (λ s. s.pos) c.end.ensures in
     omega (arith, further, ends, small)
@@ -49,8 +49,8 @@ returns-in-Err-clause-further c =
 pub returns-in-Some-Err-clause-list : goal.returns-in-Some-Err-clause-list
 returns-in-Some-Err-clause-list c i o h =
     let text = c.args.text.now in
-    let from = standing_of c.args.standing.now in
-    let to = standing_of c.next_captures.new.standing in
+    let from = cursor_of c.args.cursor.now in
+    let to = cursor_of c.next_captures.new.cursor in
     list_fails engine_shown (with_numbers text) shown_captures (with_numbers text) i text o from to c.in-Some-Err.error c.told.result
     c.told.ensures.engine
     (subst (λ item. GivesBy i text o engine_shown (with_numbers text) from item to)

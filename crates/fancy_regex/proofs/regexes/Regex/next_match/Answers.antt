@@ -1,29 +1,29 @@
 use Rattle.std.proofs.Common.{IfErr, IfSome, Some, ap, ◌∙◌, sym, subst}
-use Rattle.fancy_matches.specs.Matchers.{GivesBy, IsNoLimitWhereEasy, StaysInStep, shown_match, standing_of, with_span}
+use Rattle.fancy_matches.specs.Matchers.{GivesBy, IsNoLimitWhereEasy, StaysInStep, shown_match, cursor_of, with_span}
 use Rattle.fancy_regex.proofs.Replies.{easy_error, list_fails}
 use Rattle.fancy_regex.proofs.regexes.Regex.next_match.Goals as goal
 
 pub returns-in-None-clause-list : goal.returns-in-None-clause-list
 returns-in-None-clause-list c i o h =
     let text = c.args.text.now in
-    let from = standing_of c.args.standing.now in
-    let to = standing_of c.next_match.new.standing in
+    let from = cursor_of c.args.cursor.now in
+    let to = cursor_of c.next_match.new.cursor in
     subst (λ item. GivesBy i text o shown_match (with_span text) from item to)
     c.in-None.is (c.next_match.ensures.list i o h)
 
 pub returns-in-Some-Ok-clause-list : goal.returns-in-Some-Ok-clause-list
 returns-in-Some-Ok-clause-list c i o h =
     let text = c.args.text.now in
-    let from = standing_of c.args.standing.now in
-    let to = standing_of c.next_match.new.standing in
+    let from = cursor_of c.args.cursor.now in
+    let to = cursor_of c.next_match.new.cursor in
     subst (λ item. GivesBy i text o shown_match (with_span text) from item to)
     (c.in-Some-Ok.is ∙ ap Some c.in-Some-Ok.field-0-is) (c.next_match.ensures.list i o h)
 
 pub returns-in-Some-Err-clause-list : goal.returns-in-Some-Err-clause-list
 returns-in-Some-Err-clause-list c i o h =
     let text = c.args.text.now in
-    let from = standing_of c.args.standing.now in
-    let to = standing_of c.next_match.new.standing in
+    let from = cursor_of c.args.cursor.now in
+    let to = cursor_of c.next_match.new.cursor in
     list_fails shown_match (with_span text) shown_match (with_span text) i text o from to c.in-Some-Err.error c.told.result c.told.ensures.engine
     (subst (λ item. GivesBy i text o shown_match (with_span text) from item to)
     (c.in-Some-Err.is ∙ ap Some c.in-Some-Err.field-0-is) (c.next_match.ensures.list i o h))

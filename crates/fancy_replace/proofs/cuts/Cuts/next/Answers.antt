@@ -2,7 +2,7 @@ use Rattle.std.proofs.Common.{◌≡◌, ◌≤◌, IfErr, IfSome, true, true≢
 use Rattle.fancy_laws.proofs.Characters.{cut_of_place}
 use Rattle.fancy_meaning.specs.Places.{is_place}
 use Rattle.fancy_steps.specs.Outcomes.{first_pair}
-use Rattle.fancy_matches.specs.Matchers.{GivesCaptures, IsNoLimitWhereEasy, StaysInStep, left_of, standing_of}
+use Rattle.fancy_matches.specs.Matchers.{GivesCaptures, IsNoLimitWhereEasy, StaysInStep, left_of, cursor_of}
 use Rattle.fancy_matches.proofs.Stepping.{of_same}
 use Rattle.fancy_replace.specs.Pieces.{take_limit}
 use Rattle.fancy_replace.specs.Steps.{AreAhead, all_left}
@@ -14,7 +14,7 @@ range-piece-requires-clause-start_le_end c =
     let s = c.args.self.now in
     let was = c.in-Some-Ok.is ∙ ap Some c.in-Some-Ok.field-0-is in
     subst (λ n. s.from ≤ n) (sym (c.start.ensures ∙ ap (λ p. p.0) c.whole-whole.ensures.span))
-    (next_begins c.args.matcher.now s c.requires c.next_captures.result (standing_of c.next_captures.new.standing) c.next_captures.ensures.list
+    (next_begins c.args.matcher.now s c.requires c.next_captures.result (cursor_of c.next_captures.new.cursor) c.next_captures.ensures.list
     c.in-Some-Ok.captures was)
 
 pub range-piece-requires-clause-start_boundary : goal.range-piece-requires-clause-start_boundary
@@ -27,7 +27,7 @@ range-piece-requires-clause-end_boundary c =
     let was = c.in-Some-Ok.is ∙ ap Some c.in-Some-Ok.field-0-is in
     cut_of_place s.text.now c.start.result
     (subst (λ n. is_place s.text.now n ≡ true) (sym (c.start.ensures ∙ ap (λ p. p.0) c.whole-whole.ensures.span))
-    (next_starts_at_place c.args.matcher.now s c.requires c.next_captures.result (standing_of c.next_captures.new.standing) c.next_captures.ensures.list
+    (next_starts_at_place c.args.matcher.now s c.requires c.next_captures.result (cursor_of c.next_captures.new.cursor) c.next_captures.ensures.list
     c.in-Some-Ok.captures was))
 
 pub returns-in-Some-Err-clause-next : goal.returns-in-Some-Err-clause-next
@@ -36,7 +36,7 @@ returns-in-Some-Err-clause-next c =
     record {
       steps = λ i o h. (
         λ e. true≢false (sym (c.is_spent.ensures.1 e) ∙ c.if-is_spent.false),
-        fails c.args.matcher.now c.args.self.now c.requires c.next_captures.result (standing_of c.next_captures.new.standing)
+        fails c.args.matcher.now c.args.self.now c.requires c.next_captures.result (cursor_of c.next_captures.new.cursor)
             c.next_captures.ensures.list c.in-Some-Err.error was i o h,
       );
       easy =
@@ -56,7 +56,7 @@ returns-in-Some-Err-clause-ahead c =
     record {
       place = c.requires.place;
       spans = λ i o h.
-          none_ahead r c.args.self.now c.requires c.next_captures.result (standing_of c.next_captures.new.standing) c.next_captures.ensures.list
+          none_ahead r c.args.self.now c.requires c.next_captures.result (cursor_of c.next_captures.new.cursor) c.next_captures.ensures.list
           c.in-Some-Err.error was i o
           (of_same c.next_captures.new.self r i c.args.self.now.text.now o (sym c.next_captures.ensures.same.0, sym c.next_captures.ensures.same.1) h);
     }
@@ -65,7 +65,7 @@ pub returns-in-Some-Ok-clause-next : goal.returns-in-Some-Ok-clause-next
 returns-in-Some-Ok-clause-next c =
     let r = c.args.matcher.now in
     let s = c.args.self.now in
-    let to = standing_of c.next_captures.new.standing in
+    let to = cursor_of c.next_captures.new.cursor in
     let was = c.in-Some-Ok.is ∙ ap Some c.in-Some-Ok.field-0-is in
     let span = c.whole-whole.ensures.span in
     record {
@@ -90,7 +90,7 @@ pub returns-in-Some-Ok-clause-ahead : goal.returns-in-Some-Ok-clause-ahead
 returns-in-Some-Ok-clause-ahead c =
     let r = c.args.matcher.now in
     let s = c.args.self.now in
-    let to = standing_of c.next_captures.new.standing in
+    let to = cursor_of c.next_captures.new.cursor in
     let was = c.in-Some-Ok.is ∙ ap Some c.in-Some-Ok.field-0-is in
     let ends = c.end-self.ensures ∙ ap (λ p. p.1) c.whole-whole.ensures.span in
     record {
@@ -123,7 +123,7 @@ returns-in-None-clause-next c =
     record {
       steps = λ i o h. (
         no_cuts i o s
-            (subst (λ x. GivesCaptures i s.text.now o (standing_of s.standing) x (standing_of c.next_captures.new.standing)) c.in-None.is
+            (subst (λ x. GivesCaptures i s.text.now o (cursor_of s.cursor) x (cursor_of c.next_captures.new.cursor)) c.in-None.is
             (c.next_captures.ensures.list i o h)).0,
         refl,
       );

@@ -9,27 +9,27 @@ use fancy_vm::vm::RunOptions;
 
 /// How far a list of matches has come. Positions are in bytes of the text.
 #[derive(Clone, Copy, Debug, Drop)]
-pub struct Standing {
+pub struct Cursor {
     /// Where the next search begins; after the end of the text once the list has ended.
     pub pos: usize,
     /// Where the last match of the list ended.
     pub last: Option<usize>,
 }
 
-impl Standing {
-    ghost use Rattle.fancy_matches.specs.Matchers.{standing_of};
+impl Cursor {
+    ghost use Rattle.fancy_matches.specs.Matchers.{cursor_of};
 
     /// A list before its first match.
-    pub fn first() -> Standing
-        ensures { standing_of result ≡ list.at_start }
+    pub fn first() -> Cursor
+        ensures { cursor_of result ≡ list.at_start }
     {
-        Standing { pos: 0, last: None }
+        Cursor { pos: 0, last: None }
     }
 
     /// The options of the next search. It is continued (`\G` holds) if it begins where the last match ended, or if it is the
     /// first.
     pub fn options(&self, base: &RunOptions) -> RunOptions
-        ensures { options_of result ≡ list.options_at (options_of base.now) (standing_of self.now) }
+        ensures { options_of result ≡ list.options_at (options_of base.now) (cursor_of self.now) }
     {
         let continued = match self.last {
             None => true,
@@ -44,7 +44,7 @@ impl Standing {
 
     /// Ends the list: no text is as long as this position.
     pub fn end(&mut self)
-        ensures { standing_of self.new ≡ list.ended (standing_of self.old) }
+        ensures { cursor_of self.new ≡ list.ended (cursor_of self.old) }
     {
         self.pos = usize::MAX;
     }
@@ -53,9 +53,9 @@ impl Standing {
     /// list: it does not begin before its search, and it is not an empty match directly after the last one.
     pub fn pass(&mut self, text: &str, start: usize, end: usize) -> bool
         requires { end ≤ length text.now }
-        ensures listed { result ≡ list.is_listed (standing_of self.old) (start, end) }
-        ensures after { standing_of self.new
-            ≡ list.after text.now (standing_of self.old) (start, end) }
+        ensures listed { result ≡ list.is_listed (cursor_of self.old) (start, end) }
+        ensures after { cursor_of self.new
+            ≡ list.after text.now (cursor_of self.old) (start, end) }
     {
         let ended_here = match self.last {
             None => false,

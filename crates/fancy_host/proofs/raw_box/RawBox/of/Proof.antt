@@ -35,10 +35,10 @@ use Rattle.std.proofs.raw_atomic.Walks.{proved_at, leaves}
 use Rattle.fancy_host.proofs.Values.{both, loose_good, loose_in}
 use Rattle.std.specs.contracts.boxed.Box.into_raw_with_allocator as callee
 use Rattle.std.proofs.boxed.Box.into_raw_with_allocator.Met.{met}
-use Rattle.fancy_host.specs.contracts.loose.Loose.of.{ended, clauses}
-use Rattle.fancy_host.specs.contracts.loose.Loose.of.Key.{name as #self}
-use Rattle.fancy_host.proofs.loose.Loose.of.Statement.{statement}
-use Rattle.fancy_host.proofs.loose.Loose.of.Code as code
+use Rattle.fancy_host.specs.contracts.raw_box.RawBox.of.{ended, clauses}
+use Rattle.fancy_host.specs.contracts.raw_box.RawBox.of.Key.{name as #self}
+use Rattle.fancy_host.proofs.raw_box.RawBox.of.Statement.{statement}
+use Rattle.fancy_host.proofs.raw_box.RawBox.of.Code as code
 
 pub of_spec : {M : Type 1} → statement M
 of_spec 𝓤 𝓛 𝓜 𝓡 wired T A L LA g d dx dd allocator glue glued =
