@@ -1,3 +1,4 @@
+mod GlobLaws
 pub mod LineLaws
 pub mod MatchingLaws
 pub mod StandingLaws

@@ -1,4 +1,5 @@
 pub mod Context
+pub mod Globs
 pub mod Lines
 pub mod Matchers
 pub mod Matching
@@ -8,4 +9,5 @@ pub mod Patterns
 pub mod Printing
 pub mod RegexOptions
 pub mod Reports
+pub mod Rules
 pub mod Standing

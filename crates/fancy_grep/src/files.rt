@@ -5,6 +5,7 @@ use crate::matching::{Cause, Failure};
 use crate::output::Output;
 use crate::patterns::{Extent, Matcher, PatternOptions, alternation, matcher_of};
 use crate::reports::{Part, Search};
+use crate::rules::Rules;
 use crate::settings::{Report, Settings};
 use fancy_faults::fault::{Fault, fault_of};
 use fancy_info::context::AnalyzeContext;
@@ -234,13 +235,13 @@ impl<'r> Run<'r> {
         }
     }
 
-    /// The paths of a folder's entries in order, without the hidden ones. That of a folder ends in `/`. An entry that cannot
-    /// be read is reported, and the others are there.
-    fn entries(&mut self, folder: &str) -> io::Result<Vec<String>> {
+    /// The paths of a folder's entries that are searched, in order. That of a folder ends in `/`. An entry that cannot be
+    /// read is reported, and the others are there.
+    fn entries(&mut self, rules: Rules<'_>, folder: &str) -> io::Result<Vec<String>> {
         let mut paths = Vec::new(self.rt.alloc());
         for entry in fs::read_dir(self.rt, folder)? {
             match entry {
-                Ok(entry) => self.add_entry(&mut paths, &entry)?,
+                Ok(entry) => self.add_entry(rules, &mut paths, &entry)?,
                 Err(error) => self.fail(folder, &error),
             }
         }
@@ -248,17 +249,27 @@ impl<'r> Run<'r> {
         Ok(paths)
     }
 
-    fn add_entry(&mut self, paths: &mut Vec<String>, entry: &DirEntry) -> Result<(), AllocError> {
-        if entry.file_name().starts_with('.') {
-            return Ok(());
-        }
+    fn add_entry(
+        &mut self,
+        rules: Rules<'_>,
+        paths: &mut Vec<String>,
+        entry: &DirEntry,
+    ) -> Result<(), AllocError> {
+        let alloc = self.rt.alloc();
         let path = entry.path();
         let path = path.as_str().strip_prefix("./").unwrap_or(path.as_str());
-        match entry.file_type() {
-            Ok(kind) if kind.is_dir() => paths.push(format!(in self.rt.alloc(); "{path}/")?)?,
-            Ok(kind) if kind.is_file() => paths.push(String::from_str(self.rt.alloc(), path)?)?,
-            Ok(_) => {}
-            Err(error) => self.fail(path, &error),
+        let is_folder = match entry.file_type() {
+            Ok(kind) if kind.is_dir() => true,
+            Ok(kind) if kind.is_file() => false,
+            Ok(_) => return Ok(()),
+            Err(error) => {
+                self.fail(path, &error);
+                return Ok(());
+            }
+        };
+        if rules.has_entry(alloc, entry.file_name(), path, is_folder)? {
+            let end = if is_folder { "/" } else { "" };
+            paths.push(format!(in alloc; "{path}{end}")?)?;
         }
         Ok(())
     }
@@ -273,7 +284,7 @@ impl<'r> Run<'r> {
         if !path.ends_with('/') {
             return self.search_file(settings, path);
         }
-        match self.entries(path) {
+        match self.entries(settings.rules, path) {
             Ok(mut paths) => {
                 while let Some(path) = paths.pop() {
                     left.push(path)?;
@@ -309,13 +320,25 @@ impl<'r> Run<'r> {
             if self.is_closed() {
                 break;
             }
-            if settings.is_recursive && *path != "-" && is_folder(self.rt, path) {
-                self.search_folder(settings, path)?;
-            } else {
+            if *path == "-" || !is_folder(self.rt, path) {
+                if self.is_searched(settings.rules, path)? {
+                    self.search_file(settings, path)?;
+                }
+            } else if !settings.is_recursive {
                 self.search_file(settings, path)?;
+            } else if *path == "." || settings.rules.has_folder(self.rt.alloc(), path)? {
+                self.search_folder(settings, path)?;
             }
         }
         Ok(())
+    }
+
+    /// Whether a file that is given is searched. One that is not there is, which then is reported.
+    fn is_searched(&self, rules: Rules<'_>, path: &str) -> Result<bool, AllocError> {
+        if path == "-" || rules.files.is_empty() || fs::metadata(self.rt, path).is_err() {
+            return Ok(true);
+        }
+        rules.has_file(self.rt.alloc(), path)
     }
 }
 
@@ -446,7 +469,8 @@ fn search_all(
             return refuse(rt, whole.as_str(), settings.pattern, error);
         }
     };
-    if settings.most == Some(0) && !matches!(settings.report, Report::NameWithout) {
+    let selects_none = settings.most == Some(0) || (patterns.is_empty() && !settings.inverted);
+    if selects_none && !matches!(settings.report, Report::NameWithout) {
         return Ok(1);
     }
     let mut run = Run {
@@ -467,7 +491,8 @@ fn search_all(
 /// Searches files, and returns the status of the program: 0 if a line is selected, 1 if none is, and 2 if something failed,
 /// which standard error reports.
 ///
-/// A line matches if any of the patterns has a match in it. Under `-m 0` nothing is searched, as by grep.
+/// A line matches if any of the patterns has a match in it. Under `-m 0` nothing is searched, as by grep, nor without a
+/// pattern.
 pub fn search(
     rt: &HostRuntime,
     patterns: &[String],

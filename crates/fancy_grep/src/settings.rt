@@ -5,6 +5,7 @@ ghost use Rattle.fancy_grep.specs.Reports.{has_lines, has_name, is_decided_by_li
 
 use crate::context::Context;
 use crate::patterns::PatternOptions;
+use crate::rules::Rules;
 
 /// What is written of a text.
 #[derive(Clone, Copy)]
@@ -56,6 +57,7 @@ pub struct Settings<'a> {
     pub pattern: PatternOptions,
     /// Folders are searched with what is in them, but for hidden files and folders.
     pub is_recursive: bool,
+    pub rules: Rules<'a>,
     pub report: Report,
     /// Lines without a match are selected.
     pub inverted: bool,

@@ -46,6 +46,10 @@ replace - TEMPLATE Write this for each match: $1 is its group 1, $0 all of it, $
 color/colour - [WHEN] Write in colours: always, never or auto, which is if standard output is a terminal
 line-buffered - - Write each line as soon as it is selected
 recursive r - Search folders, but for hidden files
+include - GLOB.. Search only files whose name GLOB matches
+exclude - GLOB.. Search no file whose name GLOB matches
+exclude-dir - GLOB.. Under -r search no folder whose name GLOB matches
+glob g GLOB.. Under -r search only files whose path GLOB matches, or with ! before it no such file
 backtracks - N Backtrack N times in a line at most [default: 20000000, and 1 for each byte]
 steps - N Execute N instructions for a line at most [default: 100000000, and 8 for each byte]
 visits - N Visit N states of easy parts of the pattern in a line at most [default: 20000000]

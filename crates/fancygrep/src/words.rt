@@ -7,6 +7,7 @@ use fancy_grep::context::Context;
 use fancy_grep::files::search;
 use fancy_grep::lines::Lines;
 use fancy_grep::patterns::{Extent, Limits, PatternOptions};
+use fancy_grep::rules::{Rule, Rules};
 use fancy_grep::settings::{Report, Settings};
 use std::alloc::{AllocError, Global};
 use std::io::{IsTerminal, Write};
@@ -179,15 +180,77 @@ fn has_names(matches: &ArgMatches<'_>, paths: &[&str]) -> Option<bool> {
     }
 }
 
+/// Whether a word is this option, alone or with its value.
+fn is_option(word: &str, option: &str) -> bool {
+    match word.strip_prefix(option) {
+        Some(rest) => rest.is_empty() || rest.starts_with('='),
+        None => false,
+    }
+}
+
+/// The rules of `--include` and `--exclude`, in the order of the words.
+fn name_rules(
+    alloc: Global,
+    matches: &ArgMatches<'_>,
+    words: &[String],
+) -> Result<Vec<Rule>, AllocError> {
+    let mut rules = Vec::new(alloc);
+    let mut included = matches.get_strs("include").unwrap_or(&[]).iter();
+    let mut excluded = matches.get_strs("exclude").unwrap_or(&[]).iter();
+    for word in words {
+        if is_option(word.as_str(), "--include") {
+            if let Some(glob) = included.next() {
+                rules.push(Rule::of_name(alloc, glob, true)?)?;
+            }
+        }
+        if is_option(word.as_str(), "--exclude") {
+            if let Some(glob) = excluded.next() {
+                rules.push(Rule::of_name(alloc, glob, false)?)?;
+            }
+        }
+    }
+    Ok(rules)
+}
+
+/// The rules of `--exclude-dir`.
+fn folder_rules(alloc: Global, matches: &ArgMatches<'_>) -> Result<Vec<Rule>, AllocError> {
+    let mut rules = Vec::new(alloc);
+    for glob in matches.get_strs("exclude-dir").unwrap_or(&[]) {
+        rules.push(Rule::of_name(alloc, glob.trim_end_matches('/'), false)?)?;
+    }
+    Ok(rules)
+}
+
+/// The rules of `-g`.
+fn path_rules(alloc: Global, matches: &ArgMatches<'_>) -> Result<Vec<Rule>, AllocError> {
+    let mut rules = Vec::new(alloc);
+    for glob in matches.get_strs("glob").unwrap_or(&[]) {
+        rules.push(Rule::of_path(alloc, glob, true)?)?;
+    }
+    Ok(rules)
+}
+
 /// Searches as the words ask, and returns the status.
-fn search_by(rt: &HostRuntime, matches: &ArgMatches<'_>) -> Result<u8, AllocError> {
+fn search_by(
+    rt: &HostRuntime,
+    matches: &ArgMatches<'_>,
+    words: &[String],
+) -> Result<u8, AllocError> {
     let Some(patterns) = patterns(rt, matches)? else {
         return Ok(2);
     };
     let paths = paths(rt.alloc(), matches)?;
+    let files = name_rules(rt.alloc(), matches, words)?;
+    let folders = folder_rules(rt.alloc(), matches)?;
+    let by_path = path_rules(rt.alloc(), matches)?;
     let settings = Settings {
         pattern: options_of(matches, &patterns),
         is_recursive: matches.get_flag("recursive"),
+        rules: Rules {
+            files: &files,
+            folders: &folders,
+            paths: &by_path,
+        },
         report: report_of(matches),
         inverted: matches.get_flag("invert-match"),
         most: matches.get_one::<usize>("max-count"),
@@ -223,7 +286,7 @@ fn tell(rt: &HostRuntime, error: &Error) -> u8 {
 pub fn search_for(rt: &HostRuntime, words: &[String]) -> u8 {
     let status = match command(rt.alloc()) {
         Ok(command) => match command.try_get_matches_from(words) {
-            Ok(matches) => search_by(rt, &matches),
+            Ok(matches) => search_by(rt, &matches, words),
             Err(error) => Ok(tell(rt, &error)),
         },
         Err(error) => Err(error),

@@ -1,0 +1,172 @@
+-- What the tokens of a glob match, row by row, and how a glob is read.
+use Rattle.std.proofs.Common.{◌≡◌, ◌⊎◌, ℕ, zero, suc, ◌+◌, ◌-◌, ◌≤◌, ◌<◌, Bool, true, false, ◌&&◌, ◌||◌, ◌==◌, if◌then◌else◌, List, [], ◌∷◌, ◌++◌, length, take, drop, set, get_or, Some, None, refl, sym, ap, ap₂, subst, ◌∙◌, ⊎_elim, arith, drop-cons, drop_of_length-le, length-drop, get_or-set_same, get_or-set_other, take_all, append-nil, cond, eqb-true}
+use Rattle.std.specs.List.{position_from}
+use Rattle.std.proofs.lemmas.Bool.{cases_lt}
+use Rattle.fancy_grep.specs.Globs.{IsRow, Token, first_of, is_end, matches, matches_first, matches_some, may_be_empty, range_end, ranges, read, takes}
+
+-- ---- a row of flags, from the end of a name to its beginning
+
+-- From this place on the flags are those of the token and what follows it, and before it still those of what follows.
+pub record Passed (t : Token) (rest : List ℕ → Bool) (name : List ℕ) (at : ℕ) (row : List Bool) (e m : Bool) : Type 0 where
+  pub ends : e ≡ rest (drop at name)
+  pub more : m ≡ matches_some t rest (drop at name)
+  pub below : (i : ℕ) → i < at → get_or row i false ≡ rest (drop i name)
+  pub above : (i : ℕ) → at ≤ i → i ≤ length name → get_or row i false ≡ matches_first t rest (drop i name)
+
+module _ (t : Token) (rest : List ℕ → Bool) (name : List ℕ) (row : List Bool) where
+  pub passed_none : (f : Bool) → length row ≡ suc (length name) → f ≡ (may_be_empty t && get_or row (length name) false) → IsRow rest name row →
+      Passed t rest name (length name) (set row (length name) f) (get_or row (length name) false) false
+  passed_none f long is h =
+      let end : drop (length name) name ≡ [] = drop_of_length-le name (omega arith) in
+      let here = h.flag (length name) (omega arith) in record {
+        ends = here;
+        more = ap (matches_some t rest) (sym end);
+        below = λ i lt. get_or-set_other row (length name) i f false (omega (arith, lt)) ∙ h.flag i (omega (arith, lt));
+        above = λ i le most.
+            let same : length name ≡ i = omega (arith, le, most) in
+            subst (λ n. get_or (set row (length name) f) n false ≡ matches_first t rest (drop n name)) same
+            (get_or-set_same row (length name) f false (omega (arith, long))
+            ∙ is ∙ ap (λ b. may_be_empty t && b) (here ∙ ap rest end) ∙ ap (matches_first t rest) (sym end));
+      }
+
+  pub passed_more : (at c : ℕ) (e m n f : Bool) → suc at ≤ length name → length row ≡ suc (length name) → drop at name ≡ c ∷ drop (suc at) name →
+      n ≡ takes t c e m → f ≡ (n || (may_be_empty t && get_or row at false)) → Passed t rest name (suc at) row e m →
+      Passed t rest name at (set row at f) (get_or row at false) n
+  passed_more at c e m n f le long split is_n is_f h =
+      let ends_here = h.below at (omega arith) in
+      let takes_here : n ≡ matches_some t rest (drop at name) =
+      is_n ∙ ap₂ (takes t c) h.ends h.more ∙ ap (matches_some t rest) (sym split) in record {
+        ends = ends_here;
+        more = takes_here;
+        below = λ i lt. get_or-set_other row at i f false (omega (arith, lt)) ∙ h.below i (omega (arith, lt));
+        above = λ i ge most. ⊎_elim
+            (λ later. get_or-set_other row at i f false (omega (arith, later)) ∙ h.above i (omega (arith, later)) most)
+            (λ here.
+            let same : at ≡ i = omega (arith, ge, here) in
+            subst (λ k. get_or (set row at f) k false ≡ matches_first t rest (drop k name)) same
+            (get_or-set_same row at f false (omega (arith, long, le)) ∙ is_f ∙ ap₂ (λ a b. a || (may_be_empty t && b)) takes_here ends_here))
+            (cases_lt at i);
+      }
+
+  pub passed_all : (ends more : Bool) → Passed t rest name zero row ends more → IsRow (matches_first t rest) name row
+  passed_all ends more h = record { flag = λ i most. h.above i (omega arith) most }
+
+-- ---- the row of no token
+
+abbrev pub AreOff : List Bool → Type 0
+AreOff row = (i : ℕ) → get_or row i false ≡ false
+
+pub off_none : AreOff []
+off_none i = refl
+
+pub off_more : (row : List Bool) → AreOff row → AreOff (row ++ false ∷ [])
+off_more [] off zero = refl
+off_more [] off (suc i) = refl
+off_more (b ∷ row) off zero = off zero
+off_more (b ∷ row) off (suc i) = off_more row (λ j. off (suc j)) i
+
+last_on : (row : List Bool) (n : ℕ) → n ≡ length row → get_or (row ++ true ∷ []) n false ≡ true
+last_on [] zero is = refl
+last_on [] (suc n) is = absurd (omega (arith, is))
+last_on (b ∷ row) zero is = absurd (omega (arith, is))
+last_on (b ∷ row) (suc n) is = last_on row n (omega (arith, is))
+
+before_last_off : (row : List Bool) (n : ℕ) → AreOff row → n < length row → get_or (row ++ true ∷ []) n false ≡ false
+before_last_off [] n off lt = absurd (omega (arith, lt))
+before_last_off (b ∷ row) zero off lt = off zero
+before_last_off (b ∷ row) (suc n) off lt = before_last_off row n (λ j. off (suc j)) (omega (arith, lt))
+
+not_at_end : (name : List ℕ) (i : ℕ) → i < length name → is_end (drop i name) ≡ false
+not_at_end name i lt = ap is_end (drop-cons name i 0 lt)
+
+pub end_row : (name : List ℕ) (row : List Bool) → length row ≡ length name → AreOff row → IsRow (matches []) name (row ++ true ∷ [])
+unfolding matches
+end_row name row same off = record {
+  flag = λ i most. ⊎_elim
+      (λ before. before_last_off row i off (omega (arith, same, before)) ∙ sym (not_at_end name i before))
+      (λ at. last_on row i (omega (arith, same, at, most)) ∙ sym (ap is_end (drop_of_length-le name (omega (arith, at)))))
+      (cases_lt i (length name));
+}
+
+pub one_token_more : (t : Token) (ts : List Token) (name : List ℕ) (row : List Bool) → IsRow (matches_first t (matches ts)) name row → IsRow (matches (t ∷ ts)) name row
+unfolding matches
+one_token_more t ts name row h = record { flag = h.flag }
+
+-- ---- reading
+
+ranges_by : (low high dash : ℕ) (members : List ℕ) (b : Bool) →
+    (if b then (low, high) ∷ ranges members else (low, low) ∷ ranges (dash ∷ high ∷ members)) ≡
+    (low, (if◌then◌else◌ {A = ℕ × List ℕ} b (high, members) (low, dash ∷ high ∷ members)).0)
+    ∷ ranges (if◌then◌else◌ {A = ℕ × List ℕ} b (high, members) (low, dash ∷ high ∷ members)).1
+ranges_by low high dash members true = refl
+ranges_by low high dash members false = refl
+
+pub ranges_step : (low : ℕ) (rest : List ℕ) → ranges (low ∷ rest) ≡ (low, (range_end low rest).0) ∷ ranges (range_end low rest).1
+unfolding ranges
+ranges_step low [] = refl
+ranges_step low (c ∷ []) = refl
+ranges_step low (dash ∷ high ∷ members) = ranges_by low high dash members (dash == 45)
+
+pub ranges_none : ranges [] ≡ []
+unfolding ranges
+ranges_none = refl
+
+shorter_by : (low high dash : ℕ) (members : List ℕ) (b : Bool) →
+    length (if◌then◌else◌ {A = ℕ × List ℕ} b (high, members) (low, dash ∷ high ∷ members)).1 ≤ length (dash ∷ high ∷ members)
+shorter_by low high dash members true = omega arith
+shorter_by low high dash members false = omega arith
+
+pub range_end_shorter : (low : ℕ) (rest : List ℕ) → length (range_end low rest).1 ≤ length rest
+range_end_shorter low [] = omega arith
+range_end_shorter low (c ∷ []) = omega arith
+range_end_shorter low (dash ∷ high ∷ members) = shorter_by low high dash members (dash == 45)
+
+pub read_none : (most : ℕ) (is_path begins : Bool) → read most is_path begins [] ≡ []
+unfolding read
+read_none zero is_path begins = refl
+read_none (suc most) is_path begins = refl
+
+pub read_step : (most : ℕ) (is_path begins : Bool) (c : ℕ) (text : List ℕ) → 0 < most →
+    read most is_path begins (c ∷ text) ≡ (first_of is_path begins c text).0 ∷ read (most - 1) is_path (c == 47) (first_of is_path begins c text).1
+unfolding read
+read_step zero is_path begins c text some = absurd (omega (arith, some))
+read_step (suc most) is_path begins c text some =
+    ap (λ n. (first_of is_path begins c text).0 ∷ read n is_path (c == 47) (first_of is_path begins c text).1) (omega arith)
+
+-- ---- a set's end
+
+-- an item, and what follows it
+pub split_at : {A : Type 0} (xs : List A) (i : ℕ) (x : A) → i < length xs → x ≡ get_or xs i x → drop i xs ≡ x ∷ drop (suc i) xs
+split_at xs i x lt is = drop-cons xs i x lt ∙ ap (λ y. y ∷ drop (suc i) xs) (sym is)
+
+pub split_first : (xs : List ℕ) (x : ℕ) → 0 < length xs → x ≡ get_or xs 0 x → xs ≡ x ∷ take (length xs - 1) (drop 1 xs)
+split_first xs x some is = split_at xs 0 x some is ∙ ap (λ ys. x ∷ ys) (sym (take_all (length xs - 1) (drop 1 xs) (omega (arith, length-drop 1 xs))))
+
+pub nothing_left : (xs : List ℕ) → length xs < 1 → xs ≡ []
+nothing_left [] none = refl
+nothing_left (x ∷ xs) none = absurd (omega (arith, none))
+
+is_off : (b : Bool) → ¬ (b ≡ true) → b ≡ false
+is_off true none = absurd (none refl)
+is_off false none = refl
+
+pub no_end : (i : ℕ) (text : List ℕ) (at : ℕ) → length text ≤ at → position_from (λ c. c == 93) i (drop at text) ≡ None
+no_end i text at le = ap (position_from (λ c. c == 93) i) (drop_of_length-le text le)
+
+pub end_here : (text : List ℕ) (at c : ℕ) → at < length text → c ≡ get_or text at c → c ≡ 93 → position_from (λ d. d == 93) at (drop at text) ≡ Some at
+end_here text at c lt is bracket =
+    ap (position_from (λ d. d == 93) at) (split_at text at c lt is)
+    ∙ ap (λ d. cond (d == 93) (Some at) (position_from (λ d. d == 93) (at + 1) (drop (suc at) text))) bracket
+
+pub end_later : (text : List ℕ) (at c : ℕ) → at < length text → c ≡ get_or text at c → ¬ (c ≡ 93) →
+    position_from (λ d. d == 93) at (drop at text) ≡ position_from (λ d. d == 93) (at + 1) (drop (at + 1) text)
+end_later text at c lt is other =
+    let next : suc at ≡ at + 1 = omega arith in
+    ap (position_from (λ d. d == 93) at) (split_at text at c lt is)
+    ∙ ap (λ b. cond b (Some at) (position_from (λ d. d == 93) (at + 1) (drop (suc at) text))) (is_off (c == 93) (λ e. other (eqb-true c 93 e)))
+    ∙ ap (λ n. position_from (λ d. d == 93) (at + 1) (drop n text)) next
+
+pub written_all : (new old : List Bool) (n : ℕ) → length old ≡ n → length new ≡ length old → take n (new ++ drop (length new) old) ≡ new
+written_all new old n is same =
+    ap (λ d. take n (new ++ d)) (drop_of_length-le old (omega (arith, same)))
+    ∙ ap (take n) (append-nil new) ∙ take_all n new (omega (arith, is, same))
