@@ -11,7 +11,7 @@
  *     fancy_free(&program);
  *
  * Lengths and positions are in bytes. Patterns, trees, texts and names are UTF-8, and end where their length says:
- * a zero in them is a character like any other.
+ * a zero in them is a character like any other. fancy_bytes.h reads bytes that are no UTF-8 as such a text.
  *
  * Texts that are written for the host end with a zero, as those of snprintf do: of `room` bytes at most room - 1 are
  * written, then the zero, and nothing if room is 0. The call returns how many bytes the whole text has without the

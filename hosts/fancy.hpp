@@ -18,6 +18,7 @@
 #define FANCY_HPP
 
 #include "fancy.h"
+#include "fancy_bytes.h"
 
 #include <algorithm>
 #include <iterator>
@@ -512,6 +513,41 @@ inline bool hits::next(hit &found)
         found = hit(text_, row, patterns_->names_[row[FANCY_ROW_PATTERN]]);
     return row != nullptr;
 }
+
+/* Bytes that need not be UTF-8, read as a text to search: fancy_bytes.h says how. They have to stay where and as they are.
+ *
+ *     fancy::byte_text read("caf\xE9 42");
+ *     auto found = fancy::regex("[0-9]+").find(read.text());
+ *     read.bytes(*found); // "42", from byte 5
+ */
+class byte_text {
+  public:
+    /* Throws std::bad_alloc. */
+    explicit byte_text(std::string_view bytes, fancy_bytes_as as = FANCY_LOSSY)
+    {
+        if (!fancy_bytes_read(&read_, bytes.data(), bytes.size(), as))
+            throw std::bad_alloc();
+    }
+
+    byte_text(const byte_text &) = delete;
+    byte_text &operator=(const byte_text &) = delete;
+    ~byte_text() { fancy_bytes_free(&read_); }
+
+    std::string_view text() const noexcept { return {read_.text, read_.text_length}; }
+
+    /* Where a place of the text, at which a character begins or the text ends, is in the bytes. */
+    std::size_t offset(std::size_t at) const noexcept { return fancy_bytes_offset(&read_, at); }
+
+    /* The bytes that a match of the text stands for. */
+    std::string_view bytes(const match &found) const
+    {
+        const std::size_t start = offset(found.start());
+        return {read_.bytes + start, offset(found.end()) - start};
+    }
+
+  private:
+    fancy_bytes read_;
+};
 
 } // namespace fancy
 

@@ -204,6 +204,16 @@ static void lifetimes()
     CHECK((found == std::vector<std::size_t>(4, 600)));
 }
 
+static void bytes()
+{
+    const fancy::byte_text lossy("caf\xE9 42\xFF"), latin1("\xE9 \xFF", FANCY_LATIN1), plain("a\xC3\xA9");
+    const auto number = fancy::regex("[0-9]+").find(lossy.text());
+    CHECK(number && lossy.offset(number->start()) == 5 && lossy.bytes(*number) == "42");
+    CHECK(lossy.text() == "caf\xEF\xBF\xBD 42\xEF\xBF\xBD" && lossy.offset(lossy.text().size()) == 8);
+    CHECK(latin1.bytes(*fancy::regex(R"([^\x00-\x7f]$)").find(latin1.text())) == "\xFF");
+    CHECK(plain.text() == "a\xC3\xA9" && plain.offset(1) == 1);
+}
+
 int main()
 {
     one_match();
@@ -213,5 +223,6 @@ int main()
     scanning();
     errors();
     lifetimes();
+    bytes();
     std::printf("%d checks\n", count);
 }

@@ -178,7 +178,7 @@ abbrev is_body : (Tree → Bool) → Option Tree → Bool
 is_body f None = false
 is_body f (Some e) = f e
 
-none_before : (hs : List (ℕ × Tree)) (m g : ℕ) → numbers_of hs ≡ range_from m (length hs) → g < m → body_in hs g ≡ None
+pub none_before : (hs : List (ℕ × Tree)) (m g : ℕ) → numbers_of hs ≡ range_from m (length hs) → g < m → body_in hs g ≡ None
 none_before [] m g row h = refl
 none_before (k ∷ hs) m g row h =
     let head : k.0 ≡ m = cc in
@@ -479,19 +479,20 @@ pub next_of_root : (whole : Tree) (root : Info) (w : IsRootOf whole root) (flags
     held ≡ flags → NextFlags whole flags next
 next_of_root whole root w flags held next is at = subst (λ t. NextFlags t flags next) w.tree (subst (λ l. NextFlags (info_tree root) l next) at is)
 
--- what a round makes, as a list
-tabulated : (xs : List Bool) (f : ℕ → Bool) (k : ℕ) → ((i : ℕ) → i < length xs → slice_index_or xs i false ≡ f (k + i)) → xs ≡ map f (range_from k (length xs))
-tabulated [] f k h = refl
-tabulated (x ∷ xs) f k h =
+-- a list by its elements
+pub tabulated : {X : Type 0} (xs : List X) (d : X) (f : ℕ → X) (k : ℕ) → ((i : ℕ) → i < length xs → slice_index_or xs i d ≡ f (k + i)) →
+    xs ≡ map f (range_from k (length xs))
+tabulated [] d f k h = refl
+tabulated (x ∷ xs) d f k h =
     let at : k + 0 ≡ k = omega arith in
     let here : x ≡ f k = h 0 (omega arith) ∙ ap f at in
-    let rest = tabulated xs f (suc k) (λ i lt. let up : k + suc i ≡ suc k + i = omega arith in h (suc i) (omega arith) ∙ ap f up) in
+    let rest = tabulated xs d f (suc k) (λ i lt. let up : k + suc i ≡ suc k + i = omega arith in h (suc i) (omega arith) ∙ ap f up) in
     ap (λ b. b ∷ xs) here ∙ ap (λ l. f k ∷ l) rest
 
 pub next_is : (whole : Tree) (flags next : List Bool) → length next ≡ length flags → NextFlags whole flags next → next ≡ next_ends whole flags
 next_is whole flags next long is =
     let f : ℕ → Bool = λ g. slice_index_or flags g false || flag.target_ends flags whole g in
-    tabulated next f 0 (λ i lt. is i
+    tabulated next false f 0 (λ i lt. is i
     ∙ ap (λ b. slice_index_or flags i false || (b && flag.target_ends flags whole i)) (lt-ltb i (length flags) (omega arith))
     ∙ ap f (omega arith)) ∙ ap (λ n. map f (range_from 0 n)) long
 

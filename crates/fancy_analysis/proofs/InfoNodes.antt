@@ -1,6 +1,6 @@
 -- The nodes of a tree, child by child, and which groups are read.
-use Rattle.std.proofs.Common.{◌≡◌, ℕ, zero, suc, ◌+◌, ◌<◌, Bool, true, ◌||◌, List, [], ◌∷◌, length, map, take, get_or, sym, ap, ◌∙◌, refl, arith, ◌≤◌, false, ◌&&◌, nat_eq, nat_lt, filter_map, Option, Some, None}
-use Rattle.std.proofs.Math.Bool.{or-false, or-true, or_assoc}
+use Rattle.std.proofs.Common.{◌≡◌, ℕ, ◌+◌, ◌<◌, Bool, true, ◌||◌, List, [], ◌∷◌, length, map, take, get_or, sym, ap, ◌∙◌, refl, ◌≤◌, false, ◌&&◌, nat_eq, nat_lt, filter_map, Option, Some, None}
+use Rattle.std.proofs.Math.Bool.{or_assoc}
 use Rattle.std.specs.List.{list_any, cons_option}
 use Rattle.std.proofs.lemmas.List.{length-map, take_all}
 use Rattle.std.proofs.lemmas.List.Folds.{list_any-append, list_any_at, list_any_more}
@@ -15,7 +15,7 @@ use Rattle.fancy_meaning.specs.Sizes.{Known}
 use Rattle.fancy_analysis.specs.Made.{IsSized, IsSizedNode}
 use Rattle.fancy_info.proofs.Children.{each_at}
 use Rattle.fancy_info.proofs.Unfolded.{tree_out, each_here, each_below}
-use Rattle.fancy_expr.proofs.Walks.{taken, each-taken}
+use Rattle.fancy_expr.proofs.Walks.{each-taken}
 use Rattle.fancy_info.proofs.OverParts.{over-parts}
 use Rattle.fancy_expr.proofs.NodeParts.{nodes-parts}
 use Rattle.fancy_meaning.specs.Numbering.{numbered_within}

@@ -1,5 +1,5 @@
 -- How many rounds change something, and how many nodes they look at.
-use Rattle.std.proofs.Common.{◌≡◌, ℕ, zero, suc, ◌+◌, ◌-◌, ◌<◌, ◌≤◌, Bool, true, false, if◌then◌else◌, sym, ap, ap₂, ◌∙◌, arith, inl, inr, ◌*◌, ◌/◌, ◌||◌, List, [], ◌∷◌, Contains, length, take, get_or, refl, ⊎_elim, Option, Some, None, Result, Ok, Err, IfOk, IsTrue, ◌↔◌, MatchOption}
+use Rattle.std.proofs.Common.{◌≡◌, ℕ, zero, suc, ◌+◌, ◌-◌, ◌<◌, ◌≤◌, Bool, true, false, if◌then◌else◌, sym, ap, ap₂, ◌∙◌, arith, inl, inr, ◌*◌, ◌/◌, List, [], ◌∷◌, length, take, get_or, refl, ⊎_elim, Option, Some, None, IsTrue, ◌↔◌, MatchOption}
 use Rattle.std.proofs.lemmas.Bool.{cases_Bool, cases_lt}
 use Rattle.fancy_analysis.specs.Rounds.{rounds_from, Agree, named_by, names_one, same_sizes, size_rounds}
 use Rattle.std.specs.Bool.{beq}

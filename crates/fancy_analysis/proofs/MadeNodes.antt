@@ -1,5 +1,5 @@
 -- A node over its children, children that are visited one by one, and the root.
-use Rattle.std.proofs.Common.{◌≡◌, ℕ, zero, suc, ◌+◌, Bool, true, false, ◌||◌, List, [], ◌∷◌, map, slice_index_or, refl, sym, ap, ◌∙◌, arith, ◌&&◌, ◌==◌, subst, ◌<◌, ◌≤◌, ◌++◌, Contains, length, take, get_or, if◌then◌else◌}
+use Rattle.std.proofs.Common.{◌≡◌, ℕ, zero, suc, ◌+◌, Bool, true, false, ◌||◌, List, [], ◌∷◌, map, slice_index_or, refl, sym, ap, ◌∙◌, arith, ◌&&◌, ◌==◌, subst, ◌<◌, ◌≤◌, ◌++◌, Contains, length, take, get_or}
 use Rattle.fancy_meaning.specs.Tree.{Tree, Trees, none, more, trees, parts, NoLook}
 use Rattle.fancy_meaning.specs.Nodes.{group_count, is_read}
 use Rattle.fancy_meaning.specs.Options.{Analysis, AnalysisOptions, analysis_of}

@@ -1,180 +1,138 @@
 -- The sizes of groups, node by node, and round by round.
-use Rattle.std.proofs.Common.{◌≡◌, ℕ, ◌+◌, ◌<◌, ◌≤◌, List, [], ◌∷◌, ◌++◌, length, map, take, filter_map, get_or, refl, sym, ap, ◌∙◌, append-nil, append_assoc, ◌≢◌, zero, suc, ◌-◌, Bool, true, false, ◌&&◌, ◌==◌, if◌then◌else◌, Some, arith}
-use Rattle.std.proofs.lemmas.List.{map-append, take_all, length-map}
-use Rattle.std.proofs.lemmas.List.Elements.{filter_map-append}
-use Rattle.fancy_meaning.specs.Tree.{Tree, Trees, trees, parts, Within}
-use Rattle.fancy_meaning.specs.Nodes.{nodes, nodes_of_each, as_group, groups, group_count, body_in, target}
-use Rattle.fancy_meaning.specs.Sizes.{Size, Known, size_by, size_in_round, next_round, after_rounds, known_of, unknown}
-use Rattle.fancy_info.specs.declared.info.Info.{Info}
-use Rattle.fancy_expr.specs.declared.expr.Expr.{Expr}
-use Rattle.fancy_info.specs.Infos.{node_over, info_tree, info_size, info_children, info_facts, tree_over}
-use Rattle.fancy_analysis.specs.Made.{IsSizedNode, IsSized, own_size, from_0, from_1, past_first}
-use Rattle.fancy_info.proofs.OverParts.{over-parts}
-use Rattle.fancy_info.proofs.Unfolded.{tree_out, each_here}
-use Rattle.fancy_expr.proofs.NodeParts.{nodes-parts}
-use Rattle.fancy_expr.proofs.Walks.{taken}
+use Rattle.std.proofs.Common.{◌≡◌, ℕ, ◌+◌, ◌<◌, ◌≤◌, List, [], ◌∷◌, length, map, filter_map, get_or, refl, sym, ap, ◌∙◌, zero, suc, ◌-◌, Bool, true, false, ◌&&◌, ◌==◌, min, Option, Some, None, arith, ⊎_elim, replicate, slice_set, get_or-set_same, get_or-set_other}
+use Rattle.std.specs.List.{fold}
+use Rattle.std.proofs.Math.Bool.{and_assoc, and-false, and-true}
+use Rattle.std.proofs.lemmas.List.{length-set, length-replicate, get_or-replicate}
+use Rattle.std.proofs.lemmas.List.Sums.{fold-append}
+use Rattle.std.proofs.lemmas.Bool.{and_parts, cond-true, cond-false, eqb-true}
+use Rattle.std.proofs.lemmas.Bool.Decides.{eqb_tells, nat_tests}
 use Rattle.std.specs.Bool.{beq}
 use Rattle.std.specs.Cmp.{booleans_Decides}
-use Rattle.std.proofs.lemmas.Bool.{and_parts, eq-eqb, eqb-true, ne_eqb}
-use Rattle.fancy_expr.proofs.Listed.{true_false}
-use Rattle.fancy_analysis.specs.Rounds.{same_size, same_sizes}
+use Rattle.fancy_meaning.specs.Tree.{Tree, Trees, Group, trees, Within}
+use Rattle.fancy_meaning.specs.Nodes.{nodes, nodes_of_each, as_group, groups, group_count, body_in, target}
 use Rattle.fancy_meaning.specs.Numbering.{numbered_within}
 use Rattle.fancy_meaning.specs.Places.{range_from}
-use Rattle.fancy_analysis.proofs.EndingRules.{none_past as no_body}
-use Rattle.fancy_analysis.proofs.InfoNodes.{absent_alike}
+use Rattle.fancy_meaning.specs.Sizes.{Size, Known, exactly, plus, sum_of, either, any_of, size_by, size_in_round, next_round, after_rounds, known_of, unknown}
+use Rattle.fancy_info.specs.declared.info.Info.{Info}
+use Rattle.fancy_expr.specs.declared.expr.Expr.{Expr}
+use Rattle.fancy_info.specs.Infos.{node_over, info_tree, info_size, info_children, info_facts}
 use Rattle.fancy_info.proofs.GroupNumbers.{numbers}
+use Rattle.fancy_info.proofs.Unfolded.{tree_out, each_here}
+use Rattle.fancy_expr.proofs.Listed.{true_false}
+use Rattle.fancy_expr.proofs.NodeParts.{nodes-parts}
+use Rattle.fancy_analysis.specs.Made.{IsSizedNode, IsSized, set_size, with_size, with_sizes}
+use Rattle.fancy_analysis.specs.Rounds.{same_size, same_sizes}
+use Rattle.fancy_analysis.proofs.EndingRules.{none_before, tabulated}
+use Rattle.fancy_analysis.proofs.InfoNodes.{absent_alike, parts-out, sized_parts}
 use Rattle.fancy_meaning.specs.Tree as plain
 use Rattle.fancy_expr.specs.declared.expr.Expr.TheVariants as code
 
 module _ (known : Known) where
-  -- the sizes of a tree's groups, in the order in which they open
-  abbrev pub sizes_in : Tree → List Size
-  sizes_in t = map (λ g. size_by known g.1) (groups t)
+  -- the sizes of these trees under their numbers, one tree after the other
+  abbrev pub with_each : List Size → List Info → List Size
+  with_each table is = fold (λ t i. with_sizes known t (info_tree i)) table is
 
-  abbrev pub sizes_in_each : List Info → List Size
-  sizes_in_each [] = []
-  sizes_in_each (i ∷ is) = sizes_in (info_tree i) ++ sizes_in_each is
+  each-nodes : (table : List Size) (is : List Info) → fold (with_size known) table (nodes_of_each (trees (map info_tree is))) ≡ with_each table is
+  each-nodes table [] = refl
+  each-nodes table (i ∷ is) =
+      fold-append (with_size known) table (nodes (info_tree i)) (nodes_of_each (trees (map info_tree is)))
+      ∙ each-nodes (with_sizes known table (info_tree i)) is
 
-  sizes_among : List Tree → List Size
-  sizes_among ts = map (λ g. size_by known g.1) (filter_map as_group ts)
-
-  among-append : (a b : List Tree) → sizes_among (a ++ b) ≡ sizes_among a ++ sizes_among b
-  unfolding sizes_among
-  among-append a b =
-      ap (map (λ g. size_by known g.1)) (filter_map-append as_group a b)
-      ∙ map-append (λ g. size_by known g.1) (filter_map as_group a) (filter_map as_group b)
-
-  in-among : (t : Tree) → sizes_in t ≡ sizes_among (nodes t)
-  unfolding sizes_among groups
-  in-among t = refl
-
-  each-among : (is : List Info) → sizes_among (nodes_of_each (trees (map info_tree is))) ≡ sizes_in_each is
-  unfolding sizes_among groups
-  each-among [] = refl
-  each-among (i ∷ is) = among-append (nodes (info_tree i)) (nodes_of_each (trees (map info_tree is))) ∙ ap (λ l. sizes_in (info_tree i) ++ l) (each-among is)
-
-  over-alone : (e : Expr) (n : ℕ) (w : plain.Within) (es : Trees) → sizes_among (node_over e n w es ∷ []) ≡ own_size e (size_by known (node_over e n w es))
-  unfolding sizes_among
-  over-alone (code.Group' b e) n w es = refl
-  over-alone (code.Absent a) n w es = absent_alike (λ t. sizes_among (t ∷ [])) [] (λ y. refl) (λ y z. refl) (λ y. refl) refl a es
-  over-alone e n w es = refl
+  over-own : (e : Expr) (n : ℕ) (w : plain.Within) (es : Trees) (table : List Size) →
+      with_size known table (node_over e n w es) ≡ set_size e n (size_by known (node_over e n w es)) table
+  over-own (code.Group' b e) n w es table = refl
+  over-own (code.Absent a) n w es table = absent_alike (with_size known table) table (λ y. refl) (λ y z. refl) (λ y. refl) refl a es
+  over-own e n w es table = refl
 
   -- the groups of a node: itself, and those of its children
-  pub sizes-below : (i : Info) → IsSized known i → sizes_in (info_tree i) ≡ own_size (info_facts i).expr (info_size i) ++ sizes_in_each (info_children i)
-  sizes-below i h =
+  pub sizes-below : (i : Info) (table : List Size) → IsSized known i →
+      with_each (set_size (info_facts i).expr (info_facts i).start_group (info_size i) table) (info_children i) ≡ with_sizes known table (info_tree i)
+  sizes-below i table h =
       let f = info_facts i in
-      let ts = map info_tree (info_children i) in
-      let here = each_here (IsSizedNode known) i h in
-      let t = tree_over f (info_children i) in
-      in-among (info_tree i)
-      ∙ ap (λ x. sizes_among (nodes x)) (tree_out i)
-      ∙ ap sizes_among (nodes-parts t)
-      ∙ among-append (t ∷ []) (nodes_of_each (parts t))
-      ∙ ap (λ l. l ++ sizes_among (nodes_of_each (parts t))) (over-alone f.expr f.start_group f.within (trees ts) ∙ ap (own_size f.expr) (sym here.size))
-      ∙ ap (λ x. own_size f.expr (info_size i) ++ sizes_among (nodes_of_each x))
-      (over-parts f.expr f.start_group f.within ts (length-map (info_children i) info_tree ∙ here.arity))
-      ∙ ap (λ l. own_size f.expr (info_size i) ++ l) (each-among (info_children i))
+      ap (λ t. with_each t (info_children i)) (ap (λ s. set_size f.expr f.start_group s table) (each_here (IsSizedNode known) i h).size
+      ∙ sym (over-own f.expr f.start_group f.within (trees (map info_tree (info_children i))) table)
+      ∙ ap (with_size known table) (sym (tree_out i)))
+      ∙ sym (each-nodes (with_size known table (info_tree i)) (info_children i))
+      ∙ ap (λ ts. fold (with_size known) (with_size known table (info_tree i)) (nodes_of_each ts)) (sym (parts-out i (sized_parts known i h)))
+      ∙ sym (ap (fold (with_size known) table) (nodes-parts (info_tree i)))
 
-  sizes_in_each-append : (xs : List Info) (x : Info) → sizes_in_each (xs ++ x ∷ []) ≡ sizes_in_each xs ++ sizes_in (info_tree x)
-  sizes_in_each-append [] x = append-nil (sizes_in (info_tree x))
-  sizes_in_each-append (y ∷ xs) x =
-      ap (λ l. sizes_in (info_tree y) ++ l) (sizes_in_each-append xs x)
-      ∙ sym (append_assoc (sizes_in (info_tree y)) (sizes_in_each xs) (sizes_in (info_tree x)))
+  -- ---- groups by their numbers
 
-  pub each-taken : (is : List Info) (n : ℕ) (i : Info) → n < length is → i ≡ get_or is n i →
-      sizes_in_each (take (n + 1) is) ≡ sizes_in_each (take n is) ++ sizes_in (info_tree i)
-  each-taken is n i h at = ap sizes_in_each (taken is n i h at) ∙ sizes_in_each-append (take n is) i
+  -- the size of a group, or what was there
+  abbrev size_or : Size → Option Tree → Size
+  size_or s None = s
+  size_or s (Some e) = size_by known e
 
-pub sized_more : (known : Known) (info : Info) (n : ℕ) (child : Info) (before old after : List Size) → n < length (info_children info) →
-    child ≡ get_or (info_children info) n child → before ≡ old ++ sizes_in_each known (take n (info_children info)) →
-    after ≡ before ++ sizes_in known (info_tree child) → after ≡ old ++ sizes_in_each known (take (n + 1) (info_children info))
-sized_more known info n child before old after h at so_far pushed =
-    pushed
-    ∙ ap (λ l. l ++ sizes_in known (info_tree child)) so_far
-    ∙ append_assoc old (sizes_in_each known (take n (info_children info))) (sizes_in known (info_tree child))
-    ∙ ap (λ l. old ++ l) (sym (each-taken known (info_children info) n child h at))
+  or_unknown : (o : Option Tree) → size_or unknown o ≡ size_in_round known o
+  or_unknown None = refl
+  or_unknown (Some e) = refl
 
-pub sized_all : (known : Known) (info : Info) (n : ℕ) (old after : List Size) → length (info_children info) ≤ n → IsSized known info →
-    after ≡ old ++ own_size (info_facts info).expr (info_size info) ++ sizes_in_each known (take n (info_children info)) →
-    after ≡ old ++ sizes_in known (info_tree info)
-sized_all known info n old after h sized so_far =
-    so_far
-    ∙ append_assoc old (own_size (info_facts info).expr (info_size info)) (sizes_in_each known (take n (info_children info)))
-    ∙ ap (λ l. old ++ (own_size (info_facts info).expr (info_size info) ++ sizes_in_each known l)) (take_all n (info_children info) h)
-    ∙ ap (λ l. old ++ l) (sym (sizes-below known info sized))
+  abbrev set_groups : List Size → List (ℕ × Tree) → List Size
+  set_groups table gs = fold (λ t g. slice_set t g.0 (size_by known g.1)) table gs
 
--- ---- lists of numbers
+  groups-set : (table : List Size) (ts : List Tree) → fold (with_size known) table ts ≡ set_groups table (filter_map as_group ts)
+  groups-set table [] = refl
+  groups-set table (Group g e ∷ ts) = groups-set (slice_set table g (size_by known e)) ts
+  groups-set table (e ∷ ts) = groups-set table ts
 
--- what is the same from this number on
-range_same : {X : Type 0} (f g : ℕ → X) (n k : ℕ) → ((i : ℕ) → k ≤ i → f i ≡ g i) → map f (range_from k n) ≡ map g (range_from k n)
-range_same f g zero k h = refl
-range_same f g (suc n) k h =
-    ap (λ x. x ∷ map f (range_from (suc k) n)) (h k (omega arith)) ∙ ap (λ l. g k ∷ l) (range_same f g n (suc k) (λ i le. h i (omega arith)))
+  length-groups : (table : List Size) (gs : List (ℕ × Tree)) → length (set_groups table gs) ≡ length table
+  length-groups table [] = refl
+  length-groups table (g ∷ gs) = length-groups (slice_set table g.0 (size_by known g.1)) gs ∙ length-set table g.0 (size_by known g.1)
 
-pub range_more : {X : Type 0} (f : ℕ → X) (k n : ℕ) → map f (range_from k (n + 1)) ≡ map f (range_from k n) ++ f (k + n) ∷ []
-range_more f k zero =
-    let same : k ≡ k + zero = omega arith in
-    ap (λ i. f i ∷ []) same
-range_more f k (suc n) =
-    let up : suc n + 1 ≡ suc (n + 1) = omega arith in
-    let shift : suc k + n ≡ k + suc n = omega arith in
-    ap (λ m. map f (range_from k m)) up ∙ ap (λ l. f k ∷ l) (range_more f (suc k) n) ∙ ap (λ i. f k ∷ (map f (range_from (suc k) n) ++ f i ∷ [])) shift
+  -- with the numbers in order, from m on, each group is found by its number
+  by_number : (table : List Size) (gs : List (ℕ × Tree)) (m g : ℕ) → map (λ h. h.0) gs ≡ range_from m (length gs) → g < length table →
+      get_or (set_groups table gs) g unknown ≡ size_or (get_or table g unknown) (body_in gs g)
+  by_number table [] m g row lt = refl
+  by_number table (k ∷ gs) m g row lt =
+      let head : k.0 ≡ m = cc in
+      let next : List Size = slice_set table k.0 (size_by known k.1) in
+      let rest : map (λ h. h.0) gs ≡ range_from (suc m) (length gs) = cc in
+      by_number next gs (suc m) g rest (omega (arith, lt, length-set table k.0 (size_by known k.1)))
+      ∙ ⊎_elim
+      (λ same. let is : k.0 ≡ g = same.1 in
+      ap (size_or (get_or next g unknown)) (none_before gs (suc m) g rest (omega (arith, head, is)))
+      ∙ ap (λ i. get_or next i unknown) (sym is)
+      ∙ get_or-set_same table k.0 (size_by known k.1) unknown (omega (arith, is, lt))
+      ∙ ap (size_or (get_or table g unknown)) (sym (cond-true (k.0 == g) (Some k.1) (body_in gs g) same.0)))
+      (λ other. ap (λ s. size_or s (body_in gs g)) (get_or-set_other table k.0 g (size_by known k.1) unknown (λ e. other.1 (sym e)))
+      ∙ ap (size_or (get_or table g unknown)) (sym (cond-false (k.0 == g) (Some k.1) (body_in gs g) other.0)))
+      (eqb_tells k.0 g)
 
--- ---- groups by their numbers
-
-module _ (known : Known) where
-  abbrev in_round : List (ℕ × Tree) → ℕ → Size
-  in_round gs g = size_in_round known (body_in gs g)
-
-  first_group : (j : ℕ) (b : Tree) (gs : List (ℕ × Tree)) (g : ℕ) → j ≡ g → in_round ((j, b) ∷ gs) g ≡ size_by known b
-  first_group j b gs g is = ap (λ t. size_in_round known (if t then Some b else body_in gs g)) (eq-eqb j g is)
-
-  later_group : (j : ℕ) (b : Tree) (gs : List (ℕ × Tree)) (g : ℕ) → j ≢ g → in_round ((j, b) ∷ gs) g ≡ in_round gs g
-  later_group j b gs g h = ap (λ t. size_in_round known (if t then Some b else body_in gs g)) (ne_eqb j g h)
-
-  -- with the numbers in order, from k on, each group is found by its number
-  by_number : (k : ℕ) (gs : List (ℕ × Tree)) → map (λ h. h.0) gs ≡ range_from k (length gs) →
-      map (in_round gs) (range_from k (length gs)) ≡ map (λ h. size_by known h.1) gs
-  by_number k [] at = refl
-  by_number k (h ∷ gs) at =
-      let here : h.0 ≡ k = cc at in
-      let rest : map (λ x. x.0) gs ≡ range_from (suc k) (length gs) = cc at in
-      ap (λ s. s ∷ map (in_round (h ∷ gs)) (range_from (suc k) (length gs))) (first_group h.0 h.1 gs k here)
-      ∙ ap (λ l. size_by known h.1 ∷ l) (range_same (in_round (h ∷ gs)) (in_round gs) (length gs) (suc k) (λ i le. later_group h.0 h.1 gs i (omega arith)))
-      ∙ ap (λ l. size_by known h.1 ∷ l) (by_number (suc k) gs rest)
-
-  targets : (whole : Tree) (n : ℕ) → map (λ g. size_in_round known (target whole g)) (range_from 1 n) ≡ map (in_round (groups whole)) (range_from 1 n)
-  unfolding target
-  targets whole n = range_same _ _ n 1 (λ i le. target_at whole i le)
+  -- with the whole tree under 0 the table is that of a round
+  pub round_set : (n : ℕ) (w : Within) (e : Tree) (count : ℕ) (s : Size) → count ≡ suc (group_count (numbered_within w n e)) →
+      s ≡ size_by known (numbered_within w n e) →
+      slice_set (with_sizes known (replicate count unknown) (numbered_within w n e)) 0 s ≡ next_round (numbered_within w n e) known
+  unfolding target group_count groups
+  round_set n w e count s counted is =
+      tabulated (slice_set set 0 s) unknown f 0 (λ i lt. at i (omega (arith, lt, long, length-set set 0 s)) ∙ ap f (omega arith))
+      ∙ ap (λ k. map f (range_from 0 k)) (length-set set 0 s ∙ long ∙ counted)
     where
-      target_at : (e : Tree) (i : ℕ) → 1 ≤ i → size_in_round known (target e i) ≡ in_round (groups e) i
-      target_at e zero le = absurd (omega arith)
-      target_at e (suc i) le = refl
+      whole : Tree
+      whole = numbered_within w n e
 
-  pub round_from_1 : (w : Within) (e : Tree) → from_1 known (numbered_within w 1 e) ≡ next_round (numbered_within w 1 e) known
-  unfolding target group_count
-  round_from_1 w e =
-      let whole = numbered_within w 1 e in
-      ap (λ l. size_by known whole ∷ l) (sym (by_number 1 (groups whole) (numbers w 1 e)) ∙ sym (targets whole (length (groups whole))))
+      gs : List (ℕ × Tree)
+      gs = filter_map as_group (nodes whole)
 
-  from_0_list : (whole : Tree) (gs : List (ℕ × Tree)) → map (λ h. h.0) gs ≡ range_from 0 (length gs) →
-      past_first (map (λ h. size_by known h.1) gs) ≡ map (in_round gs) (range_from 1 (length gs))
-  from_0_list whole [] at = refl
-  from_0_list whole (h ∷ gs) at =
-      let here : h.0 ≡ 0 = cc at in
-      let rest : map (λ x. x.0) gs ≡ range_from 1 (length gs) = cc at in
-      let up : length gs + 1 ≡ suc (length gs) = omega arith in
-      ap (λ l. l ++ unknown ∷ []) (sym (by_number 1 gs rest))
-      ∙ ap (λ s. map (in_round gs) (range_from 1 (length gs)) ++ s ∷ []) (sym (ap (size_in_round known) (no_body gs 1 (1 + length gs) rest (omega arith))))
-      ∙ sym (range_more (in_round gs) 1 (length gs))
-      ∙ ap (λ n. map (in_round gs) (range_from 1 n)) up
-      ∙ range_same (in_round gs) (in_round (h ∷ gs)) (suc (length gs)) 1 (λ i le. sym (later_group h.0 h.1 gs i (omega arith)))
+      table : List Size
+      table = replicate count unknown
 
-  pub round_from_0 : (w : Within) (e : Tree) → from_0 known (numbered_within w 0 e) ≡ next_round (numbered_within w 0 e) known
-  unfolding target group_count
-  round_from_0 w e =
-      let whole = numbered_within w 0 e in
-      ap (λ l. size_by known whole ∷ l) (from_0_list whole (groups whole) (numbers w 0 e) ∙ sym (targets whole (length (groups whole))))
+      set : List Size
+      set = with_sizes known table whole
+
+      f : ℕ → Size
+      f g = size_in_round known (target whole g)
+
+      long : length set ≡ count
+      long = ap length (groups-set table (nodes whole)) ∙ length-groups table gs ∙ length-replicate count unknown
+
+      at : (i : ℕ) → i < count → get_or (slice_set set 0 s) i unknown ≡ f i
+      at zero lt = get_or-set_same set 0 s unknown (omega (arith, lt, long)) ∙ is
+      at (suc i) lt =
+          get_or-set_other set 0 (suc i) s unknown (λ h. cc)
+          ∙ ap (λ l. get_or l (suc i) unknown) (groups-set table (nodes whole))
+          ∙ by_number table gs n (suc i) (numbers w n e) (omega (arith, lt, length-replicate count unknown))
+          ∙ ap (λ x. size_or x (body_in gs (suc i))) (get_or-replicate count (suc i) unknown unknown lt)
+          ∙ or_unknown (body_in gs (suc i))
 
 -- ---- rounds that change nothing
 
@@ -195,13 +153,44 @@ pub last_round : (whole : Tree) (i : ℕ) → i ≡ group_count whole → after_
 unfolding known_of
 last_round whole i h = ap (after_rounds whole) h
 
--- ---- sizes that are the same
+-- ---- sizes in turn
 
 same_fields : (a b : Size) → a.least ≡ b.least → a.most ≡ b.most → a.is_const ≡ b.is_const → a ≡ b
 same_fields a b least most flag =
     ap (λ x. record { least = x; most = a.most; is_const = a.is_const }) least
     ∙ ap (λ x. record { least = b.least; most = x; is_const = a.is_const }) most
     ∙ ap (λ x. record { least = b.least; most = b.most; is_const = x }) flag
+
+both_same : (a b c : ℕ) → ((a == b) && min a b == c) ≡ ((b == c) && a == min b c)
+both_same a b c = grind (arith, nat_tests)
+
+const_assoc : (p q r : Bool) (a b c : ℕ) → ((p && q && a == b) && r && min a b == c) ≡ (p && (q && r && b == c) && a == min b c)
+const_assoc true true true a b c = ap (λ x. x && min a b == c) (and-true (a == b)) ∙ both_same a b c
+const_assoc true true false a b c = ap (λ x. x && min a b == c) (and-false (a == b))
+const_assoc true false r a b c = refl
+const_assoc false q r a b c = refl
+
+plus_assoc : (a b c : Size) → plus (plus a b) c ≡ plus a (plus b c)
+plus_assoc a b c = same_fields _ _ (omega arith) (omega arith) (and_assoc a.is_const b.is_const c.is_const)
+
+either_assoc : (a b c : Size) → either (either a b) c ≡ either a (either b c)
+either_assoc a b c = same_fields _ _ (omega arith) (omega arith) (const_assoc a.is_const b.is_const c.is_const a.least b.least c.least)
+
+sum_from : (s a : Size) (ss : List Size) → fold plus (plus s a) ss ≡ plus s (sum_of (a ∷ ss))
+sum_from s a [] = same_fields _ _ (omega arith) (omega arith) (ap (λ b. s.is_const && b) (sym (and-true a.is_const)))
+sum_from s a (b ∷ ss) = sum_from (plus s a) b ss ∙ plus_assoc s a (sum_of (b ∷ ss))
+
+pub sum_fold : (ss : List Size) → fold plus (exactly 0) ss ≡ sum_of ss
+sum_fold [] = refl
+sum_fold (a ∷ ss) = sum_from (exactly 0) a ss ∙ same_fields _ _ (omega arith) (omega arith) refl
+
+pub any_fold : (a : Size) (ss : List Size) → fold either a ss ≡ any_of (a ∷ ss)
+any_fold a [] = refl
+any_fold a (b ∷ []) = refl
+any_fold a (b ∷ c ∷ ss) =
+    any_fold (either a b) (c ∷ ss) ∙ either_assoc a b (any_of (c ∷ ss))
+
+-- ---- sizes that are the same
 
 same_here : (a b : Size) → same_size a b ≡ true → a ≡ b
 same_here a b h =

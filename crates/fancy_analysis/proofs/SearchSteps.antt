@@ -6,8 +6,8 @@ use Rattle.std.proofs.lemmas.Bool.Decides.{eqb_tells}
 use Rattle.std.proofs.lemmas.List.Sums.{sum_by-set}
 use Rattle.std.specs.List.{cons_option, count_by, sum_by}
 use Rattle.fancy_analysis.specs.Reached.{flag, listed, way_from, IsLink, IsLinked, IsReached, the_whole, further, HasRoom, AreReached, AreWays, IsLinkedAtOnce, LeadsOn, by_one, by_more, LeadsIntoCycle, IsLeastIntoCycle, BeginsWith, IsChain, IsState, is_done}
-use Rattle.std.proofs.lemmas.List.{get_or-map, map-set, length-append, length-map, length-set, get_or_past, length-replicate, get_or-replicate}
-use Rattle.std.proofs.lemmas.List.Elements.{Contains-append_left, Contains-push, Contains-push_cases, All-head, All-tail, All-more, All-contains, Contains-append_right, Contains-append_cases}
+use Rattle.std.proofs.lemmas.List.{get_or-map, map-set, length-map, length-set, get_or_past, length-replicate, get_or-replicate}
+use Rattle.std.proofs.lemmas.List.Elements.{Contains-append_left, Contains-push, Contains-push_cases, All-head, All-tail, All-contains, Contains-append_right, Contains-append_cases}
 use Rattle.std.proofs.Math.Seq.{take-append_seam}
 use Rattle.fancy_analysis.specs.declared.links.Link.{Link}
 use Rattle.fancy_analysis.proofs.EndingRules.{no_flag}

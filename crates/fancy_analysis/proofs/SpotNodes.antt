@@ -1,5 +1,5 @@
 -- The spots of a tree, child by child, and where a reference stands behind a call of its group.
-use Rattle.std.proofs.Common.{◌≡◌, ℕ, ◌+◌, ◌<◌, ◌≤◌, Bool, true, false, List, [], ◌∷◌, ◌++◌, length, map, drop, get_or, filter_map, Option, Some, None, if◌then◌else◌, refl, sym, ap, ◌∙◌, ◌==◌, arith, append-nil, append_assoc, zero, suc, ⊎_elim, ◌&&◌, ◌||◌, Contains}
+use Rattle.std.proofs.Common.{◌≡◌, ℕ, ◌+◌, ◌<◌, ◌≤◌, Bool, true, false, List, [], ◌∷◌, ◌++◌, length, map, drop, get_or, filter_map, Option, Some, if◌then◌else◌, refl, sym, ap, ◌∙◌, ◌==◌, arith, append-nil, append_assoc, zero, suc, ⊎_elim, ◌&&◌, ◌||◌, Contains}
 use Rattle.std.specs.List.{cons_option, list_any}
 use Rattle.std.proofs.lemmas.List.Elements.{filter_map-append}
 use Rattle.std.proofs.lemmas.List.{length-map, drop_all}

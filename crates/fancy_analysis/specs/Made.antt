@@ -1,9 +1,10 @@
 -- A node's size and hardness from those of its children, when an `Info` was made right, and what a visit gives.
-use Rattle.std.specs.Prelude.{◌≡◌, ℕ, ◌+◌, Bool, true, false, ◌&&◌, ◌||◌, not, ◌==◌, List, [], ◌∷◌, ◌++◌, map, length, slice_index_or}
-use Rattle.fancy_meaning.specs.Tree.{Tree, trees}
-use Rattle.fancy_meaning.specs.Nodes.{group_count, groups, is_read}
+use Rattle.std.specs.Prelude.{◌≡◌, ℕ, ◌+◌, Bool, true, false, ◌&&◌, ◌||◌, not, ◌==◌, List, [], ◌∷◌, map, length, slice_index_or, slice_set}
+use Rattle.std.specs.List.{fold}
+use Rattle.fancy_meaning.specs.Tree.{Tree, Group, trees}
+use Rattle.fancy_meaning.specs.Nodes.{group_count, is_read, nodes}
 use Rattle.fancy_meaning.specs.Options.{Analysis, AnalysisOptions}
-use Rattle.fancy_meaning.specs.Sizes.{Size, Known, exactly, between, plus, either, times, sum_of, any_of, size_by, size_of_group, size_of_target, known_of, unknown}
+use Rattle.fancy_meaning.specs.Sizes.{Size, Known, exactly, between, plus, either, times, sum_of, any_of, size_by, size_of_group, size_of_target, known_of}
 use Rattle.fancy_meaning.specs.Numbers.{usize_max}
 use Rattle.fancy_meaning.specs.Hard.{is_hard_assertion}
 use Rattle.fancy_analysis.specs.declared.make.VisitTables.{VisitTables}
@@ -83,22 +84,19 @@ abbrev pub read_flag : List Bool → Expr → ℕ → Bool
 read_flag reads (code.Group' b e) n = slice_index_or reads n false
 read_flag reads e n = false
 
--- the size of a node that is a group
-abbrev pub own_size : {X : Type 0} → Expr → X → List X
-own_size (code.Group' b e) s = s ∷ []
-own_size e s = []
+-- the size of a node under its number, if it is a group
+abbrev pub set_size : Expr → ℕ → Size → List Size → List Size
+set_size (code.Group' b e) n s table = slice_set table n s
+set_size e n s table = table
 
--- the sizes by number, of the whole tree at 0, where the first group has number 1
-abbrev pub from_1 : Known → Tree → List Size
-from_1 known t = size_by known t ∷ map (λ g. size_by known g.1) (groups t)
+-- the same by the node of the tree
+abbrev pub with_size : Known → List Size → Tree → List Size
+with_size known table (Group g e) = slice_set table g (size_by known e)
+with_size known table e = table
 
-abbrev pub past_first : List Size → List Size
-past_first [] = []
-past_first (s ∷ ss) = ss ++ unknown ∷ []
-
--- the same where it has number 0
-abbrev pub from_0 : Known → Tree → List Size
-from_0 known t = size_by known t ∷ past_first (map (λ g. size_by known g.1) (groups t))
+-- and of all groups of a tree
+abbrev pub with_sizes : Known → List Size → Tree → List Size
+with_sizes known table t = fold (with_size known) table (nodes t)
 
 abbrev pub tables_known : VisitTables → Known
 tables_known t = map size_of t.known.now

@@ -1,5 +1,5 @@
 -- What links reach, what leads into a cycle, and the depth-first search for one.
-use Rattle.std.specs.Prelude.{◌≡◌, ℕ, ◌<◌, Bool, true, false, not, ◌||◌, ◌&&◌, ◌==◌, if◌then◌else◌, ◌⊎◌, ◌+◌, ◌≤◌, List, [], Option, Some, None, filter_map, Vec, length, map, Contains, All, slice_index_or, count_by, ◌*◌, ◌∷◌, ◌++◌, sum_by}
+use Rattle.std.specs.Prelude.{◌≡◌, ℕ, ◌<◌, Bool, true, false, not, ◌||◌, ◌&&◌, ◌==◌, if◌then◌else◌, ◌⊎◌, ◌+◌, List, [], Option, Some, None, filter_map, Vec, length, map, Contains, All, slice_index_or, count_by, ◌*◌, ◌∷◌, ◌++◌, sum_by}
 use Rattle.std.specs.Global.{Global}
 use Rattle.fancy_analysis.specs.declared.links.Link.{Link}
 use Rattle.fancy_analysis.specs.declared.cycle_search.CycleSearch.{CycleSearch}

@@ -58,10 +58,8 @@ fn sum_of_sizes(children: &[Info]) -> Size
     ensures { size_of result ≡ sum_of (map info_size children.now) }
 {
     let mut size = Size::exactly(0);
-    let mut i = children.len();
-    while i > 0 {
-        i -= 1;
-        size = children[i].size.plus(size);
+    for child in children {
+        size = size.plus(child.size);
     }
     size
 }
@@ -69,14 +67,12 @@ fn sum_of_sizes(children: &[Info]) -> Size
 fn any_of_sizes(children: &[Info]) -> Size
     ensures { size_of result ≡ any_of (map info_size children.now) }
 {
-    if children.is_empty() {
+    let Some((first, rest)) = children.split_first() else {
         return Size::exactly(0);
-    }
-    let mut i = children.len() - 1;
-    let mut size = children[i].size;
-    while i > 0 {
-        i -= 1;
-        size = children[i].size.either(size);
+    };
+    let mut size = first.size;
+    for child in rest {
+        size = size.either(child.size);
     }
     size
 }

@@ -1,16 +1,15 @@
 //! The sizes of groups, by rounds over the whole tree until one changes nothing.
 
-ghost use Rattle.std.specs.Prelude.{◌≡◌, ◌<◌, ◌≤◌, ◌++◌, IfOk, MatchOption, map, replicate};
-ghost use Rattle.fancy_meaning.specs.Nodes.{group_count, groups};
+ghost use Rattle.std.specs.Prelude.{◌≡◌, ◌<◌, ◌≤◌, IfOk, MatchOption, map, replicate};
+ghost use Rattle.fancy_meaning.specs.Nodes.{group_count};
 ghost use Rattle.fancy_meaning.specs.Numbering.{numbered_within};
-ghost use Rattle.fancy_meaning.specs.Sizes.{Known, next_round, size_by, unknown};
+ghost use Rattle.fancy_meaning.specs.Sizes.{Known, next_round, unknown};
 ghost use Rattle.fancy_meaning.specs.Tree as plain;
 ghost use Rattle.fancy_meaning.specs.WellFormed.{most_groups};
-ghost use Rattle.fancy_info.specs.Infos.{info_tree};
-ghost use Rattle.fancy_analysis.specs.Made.{IsSized, from_0, from_1, own_size, tables_known};
+ghost use Rattle.fancy_info.specs.Infos.{info_facts, info_size, info_tree};
+ghost use Rattle.fancy_analysis.specs.Made.{IsSized, set_size, tables_known, with_sizes};
 ghost use Rattle.fancy_analysis.specs.Rounds.{AreRounds, size_rounds};
 ghost use Rattle.fancy_expr.specs.Views.{tree_of};
-ghost use Rattle.fancy_info.specs.declared.info.Info.TheViews.{out-Info};
 ghost use Rattle.fancy_info.specs.Sized.{size_of};
 
 use crate::make::VisitTables;
@@ -22,33 +21,31 @@ use fancy_info::info::Info;
 use fancy_info::size::Size;
 use std::alloc::{AllocError, Global};
 
-fn add_own_size(info: &Info, table: &mut Vec<Size>) -> Result<(), AllocError>
-    ensures { IfOk result
-        (λ _. table.new.items
-        ≡ table.old.items ++ own_size (out-Info info.now).expr.now (out-Info info.now).size) }
+/// Sets the size of a node under its number, if it is a group whose number the table has.
+fn set_size(info: &Info, table: &mut [Size])
+    ensures { map size_of table.new
+        ≡ set_size (info_facts info.now).expr (info_facts info.now).start_group
+        (info_size info.now) (map size_of table.old) }
 {
     match info.expr {
-        Expr::Group(_) => table.push(info.size)?,
+        Expr::Group(_) => {
+            if info.start_group < table.len() {
+                table[info.start_group] = info.size;
+            }
+        }
         _ => {}
     }
-    Ok(())
 }
 
-/// Adds the sizes of a node's groups in the order in which they open.
-fn add_sizes(info: &Info, table: &mut Vec<Size>) -> Result<(), AllocError>
-    ensures { (known : Known)
-        → IsSized known info.now
-        → IfOk
-        result
-        (λ _. map size_of table.new.items
-        ≡ map size_of table.old.items ++ map (λ g. size_by known g.1)
-        (groups (info_tree info.now))) }
+/// Sets the sizes of a node's groups under their numbers.
+fn set_sizes(info: &Info, table: &mut [Size])
+    ensures { (known : Known) → IsSized known info.now → map size_of table.new
+        ≡ with_sizes known (map size_of table.old) (info_tree info.now) }
 {
-    add_own_size(info, table)?;
+    set_size(info, table);
     for child in &info.children {
-        add_sizes(child, table)?;
+        set_sizes(child, table);
     }
-    Ok(())
 }
 
 fn unknown_sizes(alloc: Global, count: usize) -> Result<Vec<Size>, AllocError>
@@ -61,36 +58,14 @@ fn unknown_sizes(alloc: Global, count: usize) -> Result<Vec<Size>, AllocError>
     Ok(sizes)
 }
 
-/// The sizes by number where the first group has number 1.
-fn sizes_from_1(alloc: Global, info: &Info) -> Result<Vec<Size>, AllocError>
-    ensures { (known : Known) → IsSized known info.now →
-        IfOk result (λ v. map size_of v.items ≡ from_1 known (info_tree info.now)) }
-{
-    let mut table = Vec::new(alloc);
-    table.push(info.size)?;
-    add_sizes(info, &mut table)?;
-    Ok(table)
-}
-
-/// The sizes by number where the first group has number 0, which as a target is the whole tree.
-fn sizes_from_0(alloc: Global, info: &Info) -> Result<Vec<Size>, AllocError>
-    ensures { (known : Known) → IsSized known info.now →
-        IfOk result (λ v. map size_of v.items ≡ from_0 known (info_tree info.now)) }
-{
-    let mut table = Vec::new(alloc);
-    add_sizes(info, &mut table)?;
-    table.push(Size::unknown())?;
-    table[0] = info.size;
-    Ok(table)
-}
-
 fn next_sizes(
     alloc: Global,
     tables: &VisitTables,
     tree: &ExprTree,
     first: usize,
 ) -> Result<Vec<Size>, AllocError>
-    requires few { group_count (tree_of tree.now.expr) ≤ most_groups }
+    requires groups { tree.now.total_groups ≡ group_count (tree_of tree.now.expr) }
+    requires few { tree.now.total_groups ≤ most_groups }
     requires first { first ≤ 1 }
     ensures { IfOk
         result
@@ -99,11 +74,11 @@ fn next_sizes(
         (tables_known tables.now)) }
 {
     let info = visit(alloc, tables, &tree.expr, first, Within::NoLook)?;
-    if first == 0 {
-        sizes_from_0(alloc, &info)
-    } else {
-        sizes_from_1(alloc, &info)
-    }
+    let mut sizes = unknown_sizes(alloc, tree.total_groups + 1)?;
+    set_sizes(&info, &mut sizes);
+    // The whole tree has the number 0, also where the first group has it.
+    sizes[0] = info.size;
+    Ok(sizes)
 }
 
 /// What the rounds come to.

@@ -1,8 +1,7 @@
 -- What the tokens of a glob match, row by row, and how a glob is read.
-use Rattle.std.proofs.Common.{◌≡◌, ◌⊎◌, ℕ, zero, suc, ◌+◌, ◌-◌, ◌≤◌, ◌<◌, Bool, true, false, ◌&&◌, ◌||◌, ◌==◌, if◌then◌else◌, List, [], ◌∷◌, ◌++◌, length, take, drop, set, get_or, Some, None, refl, sym, ap, ap₂, subst, ◌∙◌, ⊎_elim, arith, drop-cons, drop_of_length-le, length-drop, get_or-set_same, get_or-set_other, take_all, append-nil, cond, eqb-true}
-use Rattle.std.specs.List.{position_from}
+use Rattle.std.proofs.Common.{append_assoc, not, Option, option_and_then, option_map, ◌≡◌, ◌⊎◌, ℕ, zero, suc, ◌+◌, ◌-◌, ◌≤◌, ◌<◌, Bool, true, false, ◌&&◌, ◌||◌, ◌==◌, if◌then◌else◌, List, [], ◌∷◌, ◌++◌, length, take, drop, set, get_or, Some, None, refl, sym, ap, ap₂, subst, ◌∙◌, ⊎_elim, arith, drop-cons, drop_of_length-le, length-drop, get_or-set_same, get_or-set_other, take_all, append-nil}
 use Rattle.std.proofs.lemmas.Bool.{cases_lt}
-use Rattle.fancy_grep.specs.Globs.{IsRow, Token, first_of, is_end, matches, matches_first, matches_some, may_be_empty, range_end, ranges, read, takes}
+use Rattle.fancy_grep.specs.Globs.{IsRow, Token, begins_after, first_of, is_end, matches, matches_first, matches_some, may_be_empty, range, ranges, read, takes}
 
 -- ---- a row of flags, from the end of a name to its beginning
 
@@ -94,32 +93,43 @@ one_token_more t ts name row h = record { flag = h.flag }
 
 -- ---- reading
 
-ranges_by : (low high dash : ℕ) (members : List ℕ) (b : Bool) →
-    (if b then (low, high) ∷ ranges members else (low, low) ∷ ranges (dash ∷ high ∷ members)) ≡
-    (low, (if◌then◌else◌ {A = ℕ × List ℕ} b (high, members) (low, dash ∷ high ∷ members)).0)
-    ∷ ranges (if◌then◌else◌ {A = ℕ × List ℕ} b (high, members) (low, dash ∷ high ∷ members)).1
-ranges_by low high dash members true = refl
-ranges_by low high dash members false = refl
-
-pub ranges_step : (low : ℕ) (rest : List ℕ) → ranges (low ∷ rest) ≡ (low, (range_end low rest).0) ∷ ranges (range_end low rest).1
+pub ranges_none : (most : ℕ) (is_first : Bool) → ranges most is_first [] ≡ None
 unfolding ranges
-ranges_step low [] = refl
-ranges_step low (c ∷ []) = refl
-ranges_step low (dash ∷ high ∷ members) = ranges_by low high dash members (dash == 45)
+ranges_none zero is_first = refl
+ranges_none (suc most) is_first = refl
 
-pub ranges_none : ranges [] ≡ []
+pub ranges_end : (most : ℕ) (is_first : Bool) (c : ℕ) (text : List ℕ) → 0 < most → (c == 93 && not is_first) ≡ true →
+    ranges most is_first (c ∷ text) ≡ Some ([], text)
 unfolding ranges
-ranges_none = refl
+ranges_end zero is_first c text some ends = absurd (omega (arith, some))
+ranges_end (suc most) is_first c text some ends =
+    ap (λ b. if b then Some ([], text) else option_and_then (λ r. option_map (λ rest. (r.0 ∷ rest.0, rest.1)) (ranges most false r.1)) (range (c ∷ text))) ends
 
-shorter_by : (low high dash : ℕ) (members : List ℕ) (b : Bool) →
-    length (if◌then◌else◌ {A = ℕ × List ℕ} b (high, members) (low, dash ∷ high ∷ members)).1 ≤ length (dash ∷ high ∷ members)
-shorter_by low high dash members true = omega arith
-shorter_by low high dash members false = omega arith
+-- these ranges before others
+abbrev pub put_after : List (ℕ × ℕ) → Option (List (ℕ × ℕ) × List ℕ) → Option (List (ℕ × ℕ) × List ℕ)
+put_after old None = None
+put_after old (Some rest) = Some (old ++ rest.0, rest.1)
 
-pub range_end_shorter : (low : ℕ) (rest : List ℕ) → length (range_end low rest).1 ≤ length rest
-range_end_shorter low [] = omega arith
-range_end_shorter low (c ∷ []) = omega arith
-range_end_shorter low (dash ∷ high ∷ members) = shorter_by low high dash members (dash == 45)
+-- the ranges from one on
+abbrev pub more_ranges : ℕ → (ℕ × ℕ) × List ℕ → Option (List (ℕ × ℕ) × List ℕ)
+more_ranges most r = option_map (λ (rest : List (ℕ × ℕ) × List ℕ). (r.0 ∷ rest.0, rest.1)) (ranges most false r.1)
+
+pub ranges_step : (most : ℕ) (is_first : Bool) (c : ℕ) (text : List ℕ) → 0 < most → (c == 93 && not is_first) ≡ false →
+    ranges most is_first (c ∷ text) ≡ option_and_then (more_ranges (most - 1)) (range (c ∷ text))
+unfolding ranges
+ranges_step zero is_first c text some goes_on = absurd (omega (arith, some))
+ranges_step (suc most) is_first c text some goes_on =
+    ap (λ b. if b then Some ([], text) else option_and_then (more_ranges most) (range (c ∷ text))) goes_on
+    ∙ ap (λ n. option_and_then (more_ranges n) (range (c ∷ text))) (omega arith)
+
+pub after_nothing : (rest : Option (List (ℕ × ℕ) × List ℕ)) → put_after [] rest ≡ rest
+after_nothing None = refl
+after_nothing (Some rest) = refl
+
+pub after_one_more : (old : List (ℕ × ℕ)) (r : ℕ × ℕ) (rest : Option (List (ℕ × ℕ) × List ℕ)) →
+    put_after (old ++ r ∷ []) rest ≡ put_after old (option_map (λ (s : List (ℕ × ℕ) × List ℕ). (r ∷ s.0, s.1)) rest)
+after_one_more old r None = refl
+after_one_more old r (Some rest) = ap (λ rs. Some (rs, rest.1)) (append_assoc old (r ∷ []) rest.0)
 
 pub read_none : (most : ℕ) (is_path begins : Bool) → read most is_path begins [] ≡ []
 unfolding read
@@ -127,13 +137,13 @@ read_none zero is_path begins = refl
 read_none (suc most) is_path begins = refl
 
 pub read_step : (most : ℕ) (is_path begins : Bool) (c : ℕ) (text : List ℕ) → 0 < most →
-    read most is_path begins (c ∷ text) ≡ (first_of is_path begins c text).0 ∷ read (most - 1) is_path (c == 47) (first_of is_path begins c text).1
+    read most is_path begins (c ∷ text) ≡ (first_of is_path begins c text).0 ∷ read (most - 1) is_path (begins_after c (first_of is_path begins c text).0) (first_of is_path begins c text).1
 unfolding read
 read_step zero is_path begins c text some = absurd (omega (arith, some))
 read_step (suc most) is_path begins c text some =
-    ap (λ n. (first_of is_path begins c text).0 ∷ read n is_path (c == 47) (first_of is_path begins c text).1) (omega arith)
+    ap (λ n. (first_of is_path begins c text).0 ∷ read n is_path (begins_after c (first_of is_path begins c text).0) (first_of is_path begins c text).1) (omega arith)
 
--- ---- a set's end
+-- ---- parts of lists
 
 -- an item, and what follows it
 pub split_at : {A : Type 0} (xs : List A) (i : ℕ) (x : A) → i < length xs → x ≡ get_or xs i x → drop i xs ≡ x ∷ drop (suc i) xs
@@ -145,26 +155,6 @@ split_first xs x some is = split_at xs 0 x some is ∙ ap (λ ys. x ∷ ys) (sym
 pub nothing_left : (xs : List ℕ) → length xs < 1 → xs ≡ []
 nothing_left [] none = refl
 nothing_left (x ∷ xs) none = absurd (omega (arith, none))
-
-is_off : (b : Bool) → ¬ (b ≡ true) → b ≡ false
-is_off true none = absurd (none refl)
-is_off false none = refl
-
-pub no_end : (i : ℕ) (text : List ℕ) (at : ℕ) → length text ≤ at → position_from (λ c. c == 93) i (drop at text) ≡ None
-no_end i text at le = ap (position_from (λ c. c == 93) i) (drop_of_length-le text le)
-
-pub end_here : (text : List ℕ) (at c : ℕ) → at < length text → c ≡ get_or text at c → c ≡ 93 → position_from (λ d. d == 93) at (drop at text) ≡ Some at
-end_here text at c lt is bracket =
-    ap (position_from (λ d. d == 93) at) (split_at text at c lt is)
-    ∙ ap (λ d. cond (d == 93) (Some at) (position_from (λ d. d == 93) (at + 1) (drop (suc at) text))) bracket
-
-pub end_later : (text : List ℕ) (at c : ℕ) → at < length text → c ≡ get_or text at c → ¬ (c ≡ 93) →
-    position_from (λ d. d == 93) at (drop at text) ≡ position_from (λ d. d == 93) (at + 1) (drop (at + 1) text)
-end_later text at c lt is other =
-    let next : suc at ≡ at + 1 = omega arith in
-    ap (position_from (λ d. d == 93) at) (split_at text at c lt is)
-    ∙ ap (λ b. cond b (Some at) (position_from (λ d. d == 93) (at + 1) (drop (suc at) text))) (is_off (c == 93) (λ e. other (eqb-true c 93 e)))
-    ∙ ap (λ n. position_from (λ d. d == 93) (at + 1) (drop n text)) next
 
 pub written_all : (new old : List Bool) (n : ℕ) → length old ≡ n → length new ≡ length old → take n (new ++ drop (length new) old) ≡ new
 written_all new old n is same =

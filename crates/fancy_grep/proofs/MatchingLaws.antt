@@ -1,6 +1,7 @@
 -- The lines that are selected, one after the other.
-use Rattle.std.proofs.Common.{◌≡◌, inl, inr, ℕ, suc, ◌≤◌, ◌<◌, length, take, Bool, false, true, Bor, IfSome, Option, Some, None, is_some, option_map, List, [], ◌∷◌, ◌++◌, map, append_assoc, append-nil, Result, Ok, Err, refl, sym, ap, subst, ◌∙◌, arith}
-use Rattle.std.proofs.lemmas.List.{length-append, length-map, map-append, take-append-le, take_all}
+use Rattle.std.proofs.Common.{◌≡◌, ◌≢◌, ◌-◌, ◌==◌, if◌then◌else◌, slice_index, ap₂, drop, drop-cons, drop_of_length-le, eqb-true, inl, inr, ℕ, suc, ◌≤◌, ◌<◌, length, take, Bool, false, true, Bor, IfSome, Option, Some, None, is_some, option_map, List, [], ◌∷◌, ◌++◌, map, append_assoc, append-nil, Result, Ok, Err, refl, sym, ap, subst, ◌∙◌, arith}
+use Rattle.std.specs.Str.Lines.{strip_carriage_return}
+use Rattle.std.proofs.lemmas.List.{length-append, length-map, map-append, take-append-drop, take-append-le, take_all}
 use Rattle.std.proofs.lemmas.List.Elements.{filter-append}
 use Rattle.std.proofs.lemmas.Option.{none-some, same_Some}
 use Rattle.fancy_meaning.specs.Options as plain
@@ -18,6 +19,7 @@ use Rattle.fancy_grep.specs.Lines.{Line, line_of, lines, lines_of}
 use Rattle.fancy_grep.specs.Matching.{Grows, Helps, IsRegexFor, LeavesFrom, StopsAt, TakesLine, TellsMatch, has_match, is_selected, selected}
 use Rattle.fancy_grep.specs.Occurrences.{sought, sought_in}
 use Rattle.fancy_grep.specs.Standing.{IsLineIn}
+use Rattle.fancy_grep.specs.declared.matching.Choice.{Choice}
 use Rattle.fancy_grep.specs.declared.occurrences.Occurrences.{Occurrences}
 use Rattle.fancy_grep.specs.declared.lines.Line as code
 use Rattle.fancy_grep.proofs.LineLaws.{AreCounted, numbered_counts}
@@ -83,12 +85,12 @@ still_few most line before after few (inr more) = omega (arith, few, ap length m
 
 -- ---- what is selected
 
-module _ (i : Input) (o : List ℕ → plain.RunOptions) (inverted : Bool) where
-  pub none_selected : selected i o inverted [] ≡ []
+module _ (i : Input) (o : List ℕ → plain.RunOptions) (choice : Choice) where
+  pub none_selected : selected i o choice [] ≡ []
   none_selected = refl
 
-  pub selected_with : (before : List Line) (line : Line) → selected i o inverted (before ++ line ∷ []) ≡ selected i o inverted before ++ selected i o inverted (line ∷ [])
-  selected_with before line = filter-append (is_selected i o inverted) before (line ∷ [])
+  pub selected_with : (before : List Line) (line : Line) → selected i o choice (before ++ line ∷ []) ≡ selected i o choice before ++ selected i o choice (line ∷ [])
+  selected_with before line = filter-append (is_selected i o choice) before (line ∷ [])
 
 -- ---- what is looked for
 
@@ -110,6 +112,33 @@ helps i line text (Some r) (Some s) same is_required is =
       subst (λ t. IsLineIn t (line_of line)) (sym (ap (λ p. p.1) both)) is,
     )
 
+-- a text that does not end in a carriage return
+
+return_by : (l : List ℕ) (b : Bool) → (b ≡ true → ⊥) → l ≡ (if b then take (length l - 1) l else l)
+return_by l true none = absurd (none refl)
+return_by l false none = refl
+
+last_return : (l : List ℕ) → 0 < length l → (slice_index l (length l - 1) == 13) ≡ true → l ≡ take (length l - 1) l ++ 13 ∷ []
+last_return l some e =
+    let n = length l - 1 in
+    let end : drop (suc n) l ≡ [] = drop_of_length-le l {i = suc n} (omega arith) in
+    let last : slice_index l n ≡ 13 = eqb-true _ 13 e in
+    sym (take-append-drop n l) ∙ ap (λ d. take n l ++ d) (drop-cons l n 0 (omega (arith, some)) ∙ ap₂ (λ b bs. b ∷ bs) last end)
+
+pub return_kept : (l : List ℕ) → ((front : List ℕ) → l ≢ front ++ 13 ∷ []) → l ≡ strip_carriage_return l
+return_kept [] none = refl
+return_kept (b ∷ bs) none = return_by (b ∷ bs) _ (λ e. none _ (last_return (b ∷ bs) (omega arith) e))
+
+pub searched_whole : (b : Bool) (text : List ℕ) → text ≡ strip_carriage_return text → text ≡ (if b then strip_carriage_return text else text)
+searched_whole true text is = is
+searched_whole false text is = refl
+
+-- it helps with a part of a line that stands wherever the line does
+pub helps_part : (i : Input) (line part : code.Line) (o : Option Occurrences) →
+    ((text : List ℕ) → IsLineIn text (line_of line) → IsLineIn text (line_of part)) → Helps i line o → Helps i part o
+helps_part i line part None stands h = tt
+helps_part i line part (Some s) stands h = (h.0, stands s.text.now h.1)
+
 -- a line that is not searched has no match
 pub has_no_match : (i : Input) (o : List ℕ → plain.RunOptions) (r : plain_required.Required) (line : List ℕ) → IsRequired r true i → Lacks r line →
     has_match i o line ≡ false
@@ -118,12 +147,12 @@ has_no_match i o r line required lacks = ap is_some (required line (begun_at (o 
 -- ---- a search line by line
 
 -- So far the search of a text has come: these lines were found, the regex is so, and these lines of the text are left.
-pub record Searched (r : Regex) (required : Option (Bor Required)) (inverted : Bool) (text : List ℕ) (lines : List code.Line) (s : Regex)
+pub record Searched (r : Regex) (required : Option (Bor Required)) (choice : Choice) (text : List ℕ) (lines : List code.Line) (s : Regex)
     (now : Option Occurrences) (left : List Line) : Type 0 where
   pub before : List Line
   pub split : lines_of text ≡ before ++ left
   pub selects : (i : Input) (o : List ℕ → plain.RunOptions) → IsRegexFor i o r → IsRequiredOf i required →
-      map line_of lines ≡ selected i o inverted before
+      map line_of lines ≡ selected i o choice before
   pub is_sought : IsSoughtIn required text now
   pub next : ℕ
   pub counted : AreCounted next left
@@ -131,16 +160,16 @@ pub record Searched (r : Regex) (required : Option (Bor Required)) (inverted : B
   pub same : IsSame r s
 
 -- what is known of a line that was taken
-pub record Took (s : Regex) (now : Option Occurrences) (inverted : Bool) (line : code.Line) (lines : List code.Line)
+pub record Took (s : Regex) (now : Option Occurrences) (choice : Choice) (line : code.Line) (lines : List code.Line)
     (result : Result (Unit {0}) Error) (more : List code.Line) (t : Regex) (after : Option Occurrences) : Type 0 where
-  pub promise : (i : Input) (o : List ℕ → plain.RunOptions) → IsRegexFor i o s → Helps i line now → TakesLine i o inverted line lines result more
+  pub promise : (i : Input) (o : List ℕ → plain.RunOptions) → IsRegexFor i o s → Helps i line now → TakesLine i o choice line lines result more
   pub still : sought_in after ≡ sought_in now
   pub grows : Grows line lines more
   pub same : IsSame s t
 
-module _ (r : Regex) (required : Option (Bor Required)) (inverted : Bool) (text : List ℕ) where
+module _ (r : Regex) (required : Option (Bor Required)) (choice : Choice) (text : List ℕ) where
   pub searched_none : (now : Option Occurrences) (left : List Line) → IsSoughtIn required text now → left ≡ lines_of text →
-      Searched r required inverted text [] r now left
+      Searched r required choice text [] r now left
   searched_none now left same is = record {
     before = [];
     split = sym is;
@@ -153,22 +182,22 @@ module _ (r : Regex) (required : Option (Bor Required)) (inverted : Bool) (text 
   }
 
   module _ (lines more : List code.Line) (s t : Regex) (now after : Option Occurrences) (line : code.Line) (rest : List Line)
-      (h : Searched r required inverted text lines s now (line_of line ∷ rest)) where
+      (h : Searched r required choice text lines s now (line_of line ∷ rest)) where
     -- the line stands in the text, so what is looked for helps
     line_helps : (i : Input) → IsRequiredOf i required → Helps i line now
     line_helps i is_required =
         helps i line text required now h.is_sought is_required
         (line_in_text text h.before 1 0 text (line_of line) rest (omega arith) refl h.split)
 
-    pub searched_more : (u : Unit {0}) → Took s now inverted line lines (Ok u) more t after →
-        Searched r required inverted text more t after rest
+    pub searched_more : (u : Unit {0}) → Took s now choice line lines (Ok u) more t after →
+        Searched r required choice text more t after rest
     searched_more u took = record {
       before = h.before ++ line_of line ∷ [];
       split = h.split ∙ sym (append_assoc h.before (line_of line ∷ []) rest);
       selects = λ i o is required.
           took.promise i o (is_for_same i o r s h.same is) (line_helps i required)
-          ∙ ap (λ ls. ls ++ selected i o inverted (line_of line ∷ [])) (h.selects i o is required)
-          ∙ sym (selected_with i o inverted h.before (line_of line));
+          ∙ ap (λ ls. ls ++ selected i o choice (line_of line ∷ [])) (h.selects i o is required)
+          ∙ sym (selected_with i o choice h.before (line_of line));
       is_sought = took.still ∙ h.is_sought;
       next = suc h.next;
       counted = h.counted.1;
@@ -176,9 +205,9 @@ module _ (r : Regex) (required : Option (Bor Required)) (inverted : Bool) (text 
       same = is_same_still r s t h.same took.same;
     }
 
-    pub searched_stops : (e : Error) → Took s now inverted line lines (Err e) more t after →
+    pub searched_stops : (e : Error) → Took s now choice line lines (Err e) more t after →
         (i : Input) (o : List ℕ → plain.RunOptions) → IsRegexFor i o r → IsRequiredOf i required →
-        StopsAt i o inverted text (map line_of more) line.number e
+        StopsAt i o choice text (map line_of more) line.number e
     searched_stops e took i o is required =
         let taken = took.promise i o (is_for_same i o r s h.same is) (line_helps i required) in record {
           before = h.before;
@@ -190,21 +219,21 @@ module _ (r : Regex) (required : Option (Bor Required)) (inverted : Bool) (text 
           fails = taken.1;
         }
 
-    pub stopped_few : (e : Error) → Took s now inverted line lines (Err e) more t after → (most : ℕ) → length lines < most →
+    pub stopped_few : (e : Error) → Took s now choice line lines (Err e) more t after → (most : ℕ) → length lines < most →
         (i : Input) (o : List ℕ → plain.RunOptions) → IsRegexFor i o r → IsRequiredOf i required → length more < most
     stopped_few e took most few i o is required =
         omega (arith, few, ap length (took.promise i o (is_for_same i o r s h.same is) (line_helps i required)).0)
 
-    pub stopped_rises : (e : Error) → Took s now inverted line lines (Err e) more t after → AreRising 1 (numbers_of more)
+    pub stopped_rises : (e : Error) → Took s now choice line lines (Err e) more t after → AreRising 1 (numbers_of more)
     stopped_rises e took = rise 1 (suc h.next) (numbers_of more) (rises_with h.next line lines more h.counted.0 took.grows h.rises)
 
-    pub stopped_same : (e : Error) → Took s now inverted line lines (Err e) more t after → IsSame r t
+    pub stopped_same : (e : Error) → Took s now choice line lines (Err e) more t after → IsSame r t
     stopped_same e took = is_same_still r s t h.same took.same
 
   -- from this line on nothing is searched
   pub left_from : (lines : List code.Line) (s : Regex) (now : Option Occurrences) (line : code.Line) (rest : List Line) →
-      Searched r required inverted text lines s now (line_of line ∷ rest) → (i : Input) (o : List ℕ → plain.RunOptions) → IsRegexFor i o r →
-      IsRequiredOf i required → LeavesFrom i o inverted text (map line_of lines) line.number
+      Searched r required choice text lines s now (line_of line ∷ rest) → (i : Input) (o : List ℕ → plain.RunOptions) → IsRegexFor i o r →
+      IsRequiredOf i required → LeavesFrom i o choice text (map line_of lines) line.number
   left_from lines s now line rest h i o is required = record {
     before = h.before;
     line = line_of line;
@@ -215,30 +244,30 @@ module _ (r : Regex) (required : Option (Bor Required)) (inverted : Bool) (text 
   }
 
   module _ (lines : List code.Line) (s : Regex) (now : Option Occurrences) (left : List Line) where
-    pub searched_all : Searched r required inverted text lines s now left → left ≡ [] → (i : Input) (o : List ℕ → plain.RunOptions) →
-        IsRegexFor i o r → IsRequiredOf i required → map line_of lines ≡ selected i o inverted (lines_of text)
+    pub searched_all : Searched r required choice text lines s now left → left ≡ [] → (i : Input) (o : List ℕ → plain.RunOptions) →
+        IsRegexFor i o r → IsRequiredOf i required → map line_of lines ≡ selected i o choice (lines_of text)
     searched_all h none i o is required =
-        h.selects i o is required ∙ ap (selected i o inverted) (sym (append-nil h.before) ∙ sym (h.split ∙ ap (λ l. h.before ++ l) none))
+        h.selects i o is required ∙ ap (selected i o choice) (sym (append-nil h.before) ∙ sym (h.split ∙ ap (λ l. h.before ++ l) none))
 
     -- so many are found, and the lines that are left are not searched
-    pub searched_most : (most : ℕ) → Searched r required inverted text lines s now left → length lines ≤ most → most ≤ length lines →
+    pub searched_most : (most : ℕ) → Searched r required choice text lines s now left → length lines ≤ most → most ≤ length lines →
         (i : Input) (o : List ℕ → plain.RunOptions) → IsRegexFor i o r → IsRequiredOf i required →
-        map line_of lines ≡ take most (selected i o inverted (lines_of text))
+        map line_of lines ≡ take most (selected i o choice (lines_of text))
     searched_most most h few many i o is required =
         let long = length-map lines line_of in
         sym
-        (ap (λ ls. take most (selected i o inverted ls)) h.split ∙ ap (take most) (filter-append (is_selected i o inverted) h.before left)
-        ∙ ap (λ ls. take most (ls ++ selected i o inverted left)) (sym (h.selects i o is required))
-        ∙ take-append-le most (map line_of lines) (selected i o inverted left) (omega (arith, many, long))
+        (ap (λ ls. take most (selected i o choice ls)) h.split ∙ ap (take most) (filter-append (is_selected i o choice) h.before left)
+        ∙ ap (λ ls. take most (ls ++ selected i o choice left)) (sym (h.selects i o is required))
+        ∙ take-append-le most (map line_of lines) (selected i o choice left) (omega (arith, many, long))
         ∙ take_all most (map line_of lines) (omega (arith, few, long)))
 
     -- no line is left
-    pub searched_few : (most : ℕ) → Searched r required inverted text lines s now left → length lines ≤ most → left ≡ [] →
+    pub searched_few : (most : ℕ) → Searched r required choice text lines s now left → length lines ≤ most → left ≡ [] →
         (i : Input) (o : List ℕ → plain.RunOptions) → IsRegexFor i o r → IsRequiredOf i required →
-        map line_of lines ≡ take most (selected i o inverted (lines_of text))
+        map line_of lines ≡ take most (selected i o choice (lines_of text))
     searched_few most h few none i o is required =
         let all = searched_all h none i o is required in
-        all ∙ sym (take_all most (selected i o inverted (lines_of text)) (omega (arith, few, ap length all, length-map lines line_of)))
+        all ∙ sym (take_all most (selected i o choice (lines_of text)) (omega (arith, few, ap length all, length-map lines line_of)))
 
-    pub all_rises : Searched r required inverted text lines s now left → AreRising 1 (numbers_of lines)
+    pub all_rises : Searched r required choice text lines s now left → AreRising 1 (numbers_of lines)
     all_rises h = rise 1 h.next (numbers_of lines) h.rises

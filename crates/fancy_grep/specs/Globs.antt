@@ -1,14 +1,15 @@
 -- Which names a glob matches: what it reads as, token by token, and which characters these match.
-use Rattle.std.specs.Prelude.{◌≡◌, ℕ, zero, suc, ◌+◌, Bool, true, false, not, ◌&&◌, ◌||◌, ◌==◌, nat_le, if◌then◌else◌, List, [], ◌∷◌, ◌++◌, map, take, drop, length, Option, Some, None, slice_index_or, ◌≤◌}
-use Rattle.std.specs.List.{list_any, position_from}
+use Rattle.std.specs.Prelude.{◌≡◌, ℕ, zero, suc, Bool, true, false, not, ◌&&◌, ◌||◌, ◌==◌, nat_le, if◌then◌else◌, List, [], ◌∷◌, ◌++◌, map, drop, length, Option, Some, None, option_and_then, option_map, slice_index_or, ◌≤◌}
+use Rattle.std.specs.List.{list_any}
 use Rattle.fancy_grep.specs.declared.globs.Set as code_set
 use Rattle.fancy_grep.specs.declared.globs.Token as code
 use Rattle.fancy_grep.specs.declared.globs.Token.TheVariants as token
 
--- the characters in one of the ranges, or those in none
+-- the characters in one of the ranges, or those in none; in a path but for `/`
 pub record Set : Type 0 where
   pub ranges : List (ℕ × ℕ)
   pub is_negated : Bool
+  pub is_path : Bool
 
 pub data Token : Type 0 where
   -- one character of the set
@@ -19,7 +20,7 @@ pub data Token : Type 0 where
   Folders : Token
 
 abbrev pub set_of : code_set.Set → Set
-set_of s = record { ranges = s.ranges.items; is_negated = s.is_negated }
+set_of s = record { ranges = s.ranges.items; is_negated = s.is_negated; is_path = s.is_path }
 
 abbrev pub token_of : code.Token → Token
 token_of (token.One set) = One (set_of set)
@@ -34,8 +35,11 @@ tokens_of tokens = map token_of tokens
 abbrev pub is_between : ℕ → ℕ × ℕ → Bool
 is_between c range = nat_le range.0 c && nat_le c range.1
 
+abbrev pub is_among : Set → ℕ → Bool
+is_among set c = if set.is_negated then not (list_any (is_between c) set.ranges) else list_any (is_between c) set.ranges
+
 abbrev pub is_in : Set → ℕ → Bool
-is_in set c = if set.is_negated then not (list_any (is_between c) set.ranges) else list_any (is_between c) set.ranges
+is_in set c = not (set.is_path && c == 47) && is_among set c
 
 -- Whether a token can match this character and then end, or go on: `ends` says whether what follows the token matches what
 -- is after the character, and `more` whether the token matches more of it first.
@@ -73,68 +77,97 @@ pub record IsRow (rest : List ℕ → Bool) (name : List ℕ) (row : List Bool) 
 -- ---- what a glob reads as
 
 abbrev pub just : ℕ → Set
-just c = record { ranges = (c, c) ∷ []; is_negated = false }
+just c = record { ranges = (c, c) ∷ []; is_negated = false; is_path = false }
 
 -- all characters, in a path but for `/`
 abbrev pub any_in : Bool → Set
-any_in is_path = record { ranges = if is_path then (47, 47) ∷ [] else []; is_negated = true }
+any_in is_path = record { ranges = []; is_negated = true; is_path = is_path }
 
--- where the range that begins with this member ends, and what follows it
-abbrev pub range_end : ℕ → List ℕ → ℕ × List ℕ
-range_end low [] = (low, [])
-range_end low (c ∷ []) = (low, c ∷ [])
-range_end low (dash ∷ high ∷ members) = if dash == 45 then (high, members) else (low, dash ∷ high ∷ members)
-
--- `a-z` is a range, and any other character one of its own
-unfoldable pub ranges : List ℕ → List (ℕ × ℕ)
-ranges [] = []
-ranges (low ∷ []) = (low, low) ∷ []
-ranges (low ∷ high ∷ []) = (low, low) ∷ (high, high) ∷ []
-ranges (low ∷ dash ∷ high ∷ members) =
-    if dash == 45 then (low, high) ∷ ranges members else (low, low) ∷ ranges (dash ∷ high ∷ members)
+-- a character that begins what does not end: in a path nothing matches it
+abbrev pub unended : Bool → ℕ → Set
+unended is_path c = if is_path then record { ranges = []; is_negated = false; is_path = false } else just c
 
 -- a set of other characters begins with `!` or `^`
-abbrev pub is_negation : List ℕ → Bool
-is_negation [] = false
-is_negation (c ∷ text) = c == 33 || c == 94
+abbrev pub after_negation : List ℕ → List ℕ × Bool
+after_negation [] = ([], false)
+after_negation (c ∷ text) = if c == 33 || c == 94 then (text, true) else (c ∷ text, false)
 
--- how many characters come before the members of a set
-abbrev pub before_members : List ℕ → ℕ
-before_members text = if is_negation text then 1 else 0
+-- the first member of a set, and what follows it: a backslash makes the next character an ordinary one
+abbrev pub member_by : Bool → ℕ → List ℕ → Option (ℕ × List ℕ)
+member_by false c text = Some (c, text)
+member_by true c [] = None
+member_by true c (d ∷ text) = Some (d, text)
 
--- Where a set ends, if it does: at the first `]` that is not its first member.
-abbrev pub set_end : List ℕ → Option ℕ
-set_end text = position_from (λ c. c == 93) (before_members text + 1) (drop (before_members text + 1) text)
+abbrev pub member : List ℕ → Option (ℕ × List ℕ)
+member [] = None
+member (c ∷ text) = member_by (c == 92) c text
 
--- a set of others in a path has no `/`
-abbrev pub set_in : Bool → List ℕ → ℕ → Set
-set_in is_path text end = record {
-  ranges = ranges (drop (before_members text) (take end text)) ++ (if is_path && is_negation text then (47, 47) ∷ [] else []);
-  is_negated = is_negation text;
-}
+-- where the range from a member on ends, and what follows it: `-` is no member before another one
+abbrev pub range_end : ℕ → List ℕ → Option ((ℕ × ℕ) × List ℕ)
+range_end low [] = Some ((low, low), [])
+range_end low (c ∷ []) = Some ((low, low), c ∷ [])
+range_end low (dash ∷ c ∷ text) =
+    if dash == 45 && not (c == 93) then option_map (λ high. ((low, high.0), high.1)) (member (c ∷ text))
+    else Some ((low, low), dash ∷ c ∷ text)
 
-abbrev pub bracketed : Bool → List ℕ → Option ℕ → Token × List ℕ
-bracketed is_path text None = (One (just 91), text)
-bracketed is_path text (Some end) = (One (set_in is_path text end), drop (end + 1) text)
+-- the first range of a set, and what follows it
+abbrev pub range : List ℕ → Option ((ℕ × ℕ) × List ℕ)
+range text = option_and_then (λ low. range_end low.0 low.1) (member text)
+
+-- The ranges of a set and what follows its end, if it ends: at the first `]` that is not its first member. Each takes a
+-- character at least, and so there are no more than characters.
+unfoldable pub ranges : ℕ → (is_first : Bool) → List ℕ → Option (List (ℕ × ℕ) × List ℕ)
+ranges zero is_first text = None
+ranges (suc most) is_first [] = None
+ranges (suc most) is_first (c ∷ text) =
+    if c == 93 && not is_first then Some ([], text)
+    else option_and_then (λ r. option_map (λ rest. (r.0 ∷ rest.0, rest.1)) (ranges most false r.1)) (range (c ∷ text))
+
+abbrev pub bracketed_by : (is_path is_negated : Bool) → List ℕ → Option (List (ℕ × ℕ) × List ℕ) → Token × List ℕ
+bracketed_by is_path is_negated text None = (One (unended is_path 91), text)
+bracketed_by is_path is_negated text (Some (ranges, rest)) = (One (record { ranges = ranges; is_negated = is_negated; is_path = is_path }), rest)
+
+-- a set after `[`, if it ends
+abbrev pub bracketed : Bool → List ℕ → Token × List ℕ
+bracketed is_path text =
+    let members = after_negation text in bracketed_by is_path members.1 text (ranges (length members.0) true members.0)
 
 -- a backslash makes the next character an ordinary one
-abbrev pub escaped : List ℕ → Token × List ℕ
-escaped [] = (One (just 92), [])
-escaped (c ∷ text) = (One (just c), text)
+abbrev pub escaped : Bool → List ℕ → Token × List ℕ
+escaped is_path [] = (One (unended is_path 92), [])
+escaped is_path (c ∷ text) = (One (just c), text)
+
+-- what follows the first stars
+abbrev pub after_stars : List ℕ → List ℕ
+after_stars [] = []
+after_stars (c ∷ text) = if c == 42 then after_stars text else c ∷ text
+
+abbrev pub is_starred : List ℕ → Bool
+is_starred [] = false
+is_starred (c ∷ text) = c == 42
+
+abbrev pub starred_by : (is_double : Bool) → (after text : List ℕ) → Token × List ℕ
+starred_by false after text = (Any (any_in true), text)
+starred_by true [] text = (Any (any_in false), [])
+starred_by true (c ∷ after) text = if c == 47 then (Folders, after) else (Any (any_in true), text)
 
 -- after a `*` where a name begins in a path: `**/` are folders, and `**` at the end is all that is below
 abbrev pub starred : List ℕ → Token × List ℕ
-starred [] = (Any (any_in true), [])
-starred (c ∷ []) = if c == 42 then (Any (any_in false), []) else (Any (any_in true), c ∷ [])
-starred (c ∷ d ∷ text) = if c == 42 && d == 47 then (Folders, text) else (Any (any_in true), c ∷ d ∷ text)
+starred text = starred_by (is_starred text) (after_stars text) text
 
 -- the first token of a glob, by its first character, and what follows it
 abbrev pub first_of : (is_path begins : Bool) → ℕ → List ℕ → Token × List ℕ
 first_of is_path begins c text =
     if c == 42 then (if is_path && begins then starred text else (Any (any_in is_path), text))
     else (if c == 63 then (One (any_in is_path), text)
-    else (if c == 92 then escaped text
-    else (if c == 91 then bracketed is_path text (set_end text) else (One (just c), text))))
+    else (if c == 92 then escaped is_path text
+    else (if c == 91 then bracketed is_path text else (One (just c), text))))
+
+-- whether a name begins after a token, which begins with this character
+abbrev pub begins_after : ℕ → Token → Bool
+begins_after c Folders = true
+begins_after c (One set) = c == 47
+begins_after c (Any set) = c == 47
 
 -- the tokens of a glob; each takes a character at least, and so there are no more than characters
 unfoldable pub read : ℕ → (is_path begins : Bool) → List ℕ → List Token
@@ -142,9 +175,8 @@ read zero is_path begins text = []
 read (suc most) is_path begins [] = []
 read (suc most) is_path begins (c ∷ text) =
     let first = first_of is_path begins c text in
-    first.0 ∷ read most is_path (c == 47) first.1
+    first.0 ∷ read most is_path (begins_after c first.0) first.1
 
--- In a path a glob without `/` may begin in any folder.
-abbrev pub glob_of : (is_path is_anywhere : Bool) → List ℕ → List Token
-glob_of is_path is_anywhere text =
-    (if is_anywhere then Folders ∷ [] else []) ++ read (length text) is_path true text
+-- A glob for names may begin in any folder.
+abbrev pub glob_of : (is_path : Bool) → List ℕ → List Token
+glob_of is_path text = (if is_path then [] else Folders ∷ []) ++ read (length text) is_path true text

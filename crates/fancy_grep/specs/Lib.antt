@@ -1,5 +1,6 @@
 pub mod Context
 pub mod Globs
+pub mod Ignores
 pub mod Lines
 pub mod Matchers
 pub mod Matching

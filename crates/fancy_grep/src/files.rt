@@ -1,11 +1,13 @@
 //! A search of files, folders and standard input.
 
 use crate::excerpt::push_excerpt;
+use crate::globs::chars_of;
+use crate::ignores::Ignores;
 use crate::matching::{Cause, Failure};
 use crate::output::Output;
 use crate::patterns::{Extent, Matcher, PatternOptions, alternation, matcher_of};
 use crate::reports::{Part, Search};
-use crate::rules::Rules;
+use crate::rules::{Entry, Rules};
 use crate::settings::{Report, Settings};
 use fancy_faults::fault::{Fault, fault_of};
 use fancy_info::context::AnalyzeContext;
@@ -28,6 +30,7 @@ struct Run<'r> {
     rt: &'r HostRuntime,
     matcher: Matcher,
     out: Output,
+    ignores: Ignores,
     report: Report,
     is_silent: bool,
     /// A line was selected.
@@ -221,11 +224,7 @@ impl<'r> Run<'r> {
         Ok(())
     }
 
-    /// Searches a file, or standard input if its path is `-`.
     fn search_file(&mut self, settings: &Settings<'_>, path: &str) -> Result<(), AllocError> {
-        if path == "-" {
-            return self.search_source(settings, name_of(path), self.rt.stdin());
-        }
         match File::open(self.rt, path) {
             Ok(file) => self.search_source(settings, path, file),
             Err(error) => {
@@ -237,11 +236,15 @@ impl<'r> Run<'r> {
 
     /// The paths of a folder's entries that are searched, in order. That of a folder ends in `/`. An entry that cannot be
     /// read is reported, and the others are there.
-    fn entries(&mut self, rules: Rules<'_>, folder: &str) -> io::Result<Vec<String>> {
-        let mut paths = Vec::new(self.rt.alloc());
-        for entry in fs::read_dir(self.rt, folder)? {
+    fn entries(&mut self, rules: Rules<'_>, folder: &str, whole: &str) -> io::Result<Vec<String>> {
+        let alloc = self.rt.alloc();
+        if !rules.has_ignored {
+            self.ignores.enter(self.rt, whole)?;
+        }
+        let mut paths = Vec::new(alloc);
+        for entry in fs::read_dir(self.rt, if folder.is_empty() { "." } else { folder })? {
             match entry {
-                Ok(entry) => self.add_entry(rules, &mut paths, &entry)?,
+                Ok(entry) => self.add_entry(rules, &mut paths, folder, whole, &entry)?,
                 Err(error) => self.fail(folder, &error),
             }
         }
@@ -249,42 +252,76 @@ impl<'r> Run<'r> {
         Ok(paths)
     }
 
+    /// Adds the path of an entry, if it is searched.
     fn add_entry(
         &mut self,
         rules: Rules<'_>,
         paths: &mut Vec<String>,
+        folder: &str,
+        whole: &str,
         entry: &DirEntry,
     ) -> Result<(), AllocError> {
-        let alloc = self.rt.alloc();
-        let path = entry.path();
-        let path = path.as_str().strip_prefix("./").unwrap_or(path.as_str());
+        let name = entry.file_name();
+        let path = format!(in self.rt.alloc(); "{folder}{name}")?;
         let is_folder = match entry.file_type() {
             Ok(kind) if kind.is_dir() => true,
             Ok(kind) if kind.is_file() => false,
             Ok(_) => return Ok(()),
             Err(error) => {
-                self.fail(path, &error);
+                self.fail(path.as_str(), &error);
                 return Ok(());
             }
         };
-        if rules.has_entry(alloc, entry.file_name(), path, is_folder)? {
+        if self.is_entry_searched(rules, path.as_str(), whole, name, is_folder)? {
             let end = if is_folder { "/" } else { "" };
-            paths.push(format!(in alloc; "{path}{end}")?)?;
+            paths.push(format!(in self.rt.alloc(); "{path}{end}")?)?;
         }
         Ok(())
+    }
+
+    /// Whether an entry of a folder is searched, which has this whole path.
+    fn is_entry_searched(
+        &self,
+        rules: Rules<'_>,
+        path: &str,
+        whole: &str,
+        name: &str,
+        is_folder: bool,
+    ) -> Result<bool, AllocError> {
+        let alloc = self.rt.alloc();
+        let path = chars_of(alloc, path.strip_prefix("./").unwrap_or(path))?;
+        let mut whole = chars_of(alloc, whole)?;
+        let name = chars_of(alloc, name)?;
+        whole.extend_from_slice(&name)?;
+        let entry = Entry {
+            path: &whole,
+            name: &name,
+            is_folder,
+        };
+        let by_ignores = self.ignores.decision(alloc, entry)?;
+        rules.has_entry(
+            alloc,
+            Entry {
+                path: &path,
+                ..entry
+            },
+            by_ignores,
+        )
     }
 
     /// Searches a file, or adds a folder's entries to what is left, the first one last.
     fn search_entry(
         &mut self,
         settings: &Settings<'_>,
+        root: Root<'_>,
         path: &str,
         left: &mut Vec<String>,
     ) -> Result<(), AllocError> {
-        if !path.ends_with('/') {
+        if !path.is_empty() && !path.ends_with('/') {
             return self.search_file(settings, path);
         }
-        match self.entries(settings.rules, path) {
+        let whole = root.whole_path(self.rt.alloc(), path)?;
+        match self.entries(settings.rules, path, whole.as_str()) {
             Ok(mut paths) => {
                 while let Some(path) = paths.pop() {
                     left.push(path)?;
@@ -295,18 +332,33 @@ impl<'r> Run<'r> {
         Ok(())
     }
 
-    /// Searches the files in a folder and in those below it, with their names.
+    /// Searches the files in a folder and in those below it, with their names. The working folder has no name.
     fn search_folder(&mut self, settings: &Settings<'_>, folder: &str) -> Result<(), AllocError> {
+        let alloc = self.rt.alloc();
         let settings = Settings {
             has_names: Some(settings.has_names.unwrap_or(true)),
             ..*settings
         };
-        let mut left = Vec::new(self.rt.alloc());
-        left.push(format!(in self.rt.alloc(); "{folder}/")?)?;
+        let end = if folder.is_empty() || folder.ends_with('/') {
+            ""
+        } else {
+            "/"
+        };
+        let folder = format!(in alloc; "{folder}{end}")?;
+        let whole = whole_path(self.rt, folder.as_str())?;
+        let root = Root {
+            folder: folder.as_str(),
+            whole: whole.as_str(),
+        };
+        if !settings.rules.has_ignored {
+            self.ignores.enter_above(self.rt, root.whole)?;
+        }
+        let mut left = Vec::new(alloc);
+        left.push(folder.clone()?)?;
         for _ in 0..u64::MAX {
             match left.pop() {
                 Some(path) if !self.is_closed() => {
-                    self.search_entry(&settings, path.as_str(), &mut left)?;
+                    self.search_entry(&settings, root, path.as_str(), &mut left)?;
                 }
                 _ => break,
             }
@@ -314,40 +366,75 @@ impl<'r> Run<'r> {
         Ok(())
     }
 
-    /// Searches each file, and each folder if that is asked for.
+    /// Searches each file, and each folder if that is asked for. Without a path it searches the working folder.
     fn search_paths(&mut self, settings: &Settings<'_>, paths: &[&str]) -> Result<(), AllocError> {
+        if paths.is_empty() {
+            return self.search_folder(settings, "");
+        }
         for path in paths {
             if self.is_closed() {
                 break;
             }
-            if *path == "-" || !is_folder(self.rt, path) {
-                if self.is_searched(settings.rules, path)? {
-                    self.search_file(settings, path)?;
-                }
-            } else if !settings.is_recursive {
-                self.search_file(settings, path)?;
-            } else if *path == "." || settings.rules.has_folder(self.rt.alloc(), path)? {
-                self.search_folder(settings, path)?;
-            }
+            self.search_path(settings, path)?;
         }
         Ok(())
     }
 
-    /// Whether a file that is given is searched. One that is not there is, which then is reported.
-    fn is_searched(&self, rules: Rules<'_>, path: &str) -> Result<bool, AllocError> {
-        if path == "-" || rules.files.is_empty() || fs::metadata(self.rt, path).is_err() {
-            return Ok(true);
+    /// Searches a file, or standard input if its path is `-`, or a folder if that is asked for.
+    fn search_path(&mut self, settings: &Settings<'_>, path: &str) -> Result<(), AllocError> {
+        if path == "-" {
+            return self.search_source(settings, "(standard input)", self.rt.stdin());
         }
-        rules.has_file(self.rt.alloc(), path)
+        let name = chars_of(self.rt.alloc(), path)?;
+        let rules = settings.rules;
+        if settings.is_recursive && is_folder(self.rt, path) {
+            if path == "." || rules.has_folder(self.rt.alloc(), &name)? {
+                self.search_folder(settings, path)?;
+            }
+        } else if self.is_searched(rules, path, &name)? {
+            self.search_file(settings, path)?;
+        }
+        Ok(())
+    }
+
+    /// Whether a file that is given is searched. What is no file is, which then is reported.
+    fn is_searched(&self, rules: Rules<'_>, path: &str, name: &[char]) -> Result<bool, AllocError> {
+        match fs::metadata(self.rt, path) {
+            Ok(metadata) if !metadata.is_dir() => rules.has_file(self.rt.alloc(), name),
+            _ => Ok(true),
+        }
     }
 }
 
-/// What a file is called, by its path.
-fn name_of(path: &str) -> &str {
-    if path == "-" {
-        return "(standard input)";
+/// A folder that is searched with what is below it.
+#[derive(Clone, Copy)]
+struct Root<'r> {
+    /// Its path as it is given, with a `/` at its end; of the working folder nothing.
+    folder: &'r str,
+    /// Its whole path, with a `/` at its end.
+    whole: &'r str,
+}
+
+impl<'r> Root<'r> {
+    /// The whole path of what is in it, by the path that is written.
+    fn whole_path(self, alloc: Global, path: &str) -> Result<String, AllocError> {
+        let rest = path.strip_prefix(self.folder).unwrap_or(path);
+        let whole = self.whole;
+        format!(in alloc; "{whole}{rest}")
     }
-    path
+}
+
+/// The whole path of a folder, with a `/` at its end; if it cannot be found, its path as it is given.
+fn whole_path(rt: &HostRuntime, folder: &str) -> Result<String, AllocError> {
+    let alloc = rt.alloc();
+    let path = if folder.is_empty() { "." } else { folder };
+    match fs::canonicalize(rt, path) {
+        Ok(whole) => {
+            let whole = whole.as_path().as_str().trim_end_matches('/');
+            format!(in alloc; "{whole}/")
+        }
+        Err(_) => String::from_str(alloc, folder),
+    }
 }
 
 /// Whether the path names a folder.
@@ -469,7 +556,8 @@ fn search_all(
             return refuse(rt, whole.as_str(), settings.pattern, error);
         }
     };
-    let selects_none = settings.most == Some(0) || (patterns.is_empty() && !settings.inverted);
+    let selects_none = settings.most == Some(0)
+        || (patterns.is_empty() && !settings.choice.inverted);
     if selects_none && !matches!(settings.report, Report::NameWithout) {
         return Ok(1);
     }
@@ -477,6 +565,7 @@ fn search_all(
         rt,
         matcher,
         out: Output::new(rt.alloc(), rt.stdout(), settings.is_line_buffered),
+        ignores: Ignores::new(rt.alloc()),
         report: settings.report,
         is_silent: settings.is_silent,
         is_selected: false,

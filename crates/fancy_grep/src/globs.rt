@@ -1,7 +1,7 @@
 //! Globs, and the names that they match.
 
-ghost use Rattle.std.specs.Prelude.{◌≡◌, ◌++◌, ◌≤◌, ◌<◌, ◌&&◌, ◌||◌, ◌∷◌, [], if◌then◌else◌, Bool, ℕ, List, suc, IfOk, IfSome, chars, length, option_map};
-ghost use Rattle.fancy_grep.specs.Globs.{Folders, IsRow, any_in, before_members, escaped, first_of, glob_of, is_in, is_negation, just, may_be_empty, matches, matches_first, range_end, ranges, set_end, set_in, set_of, starred, takes, token_of, tokens_of};
+ghost use Rattle.std.specs.Prelude.{◌≡◌, ◌++◌, ◌≤◌, ◌<◌, ◌&&◌, ◌||◌, ◌∷◌, [], ◌==◌, not, if◌then◌else◌, true, Bool, ℕ, List, suc, IfOk, IfSome, chars, length, option_map};
+ghost use Rattle.fancy_grep.specs.Globs.{Folders, IsRow, after_negation, after_stars, any_in, begins_after, bracketed, escaped, first_of, glob_of, is_among, is_in, just, may_be_empty, matches, matches_first, member, range, ranges, set_of, starred, takes, token_of, tokens_of, unended};
 
 use std::alloc::{AllocError, Global};
 
@@ -10,6 +10,8 @@ use std::alloc::{AllocError, Global};
 pub struct Set {
     ranges: Vec<(char, char)>,
     is_negated: bool,
+    /// It is in a path, and has no `/`.
+    is_path: bool,
 }
 
 /// What a part of a glob matches.
@@ -24,11 +26,17 @@ pub enum Token {
 }
 
 impl Set {
-    fn has(&self, c: char) -> bool
-        ensures { result ≡ is_in (set_of self.now) c }
+    fn is_among(&self, c: char) -> bool
+        ensures { result ≡ is_among (set_of self.now) c }
     {
         let is_among = self.ranges.iter().any(|range| range.0 <= c && c <= range.1);
         if self.is_negated { !is_among } else { is_among }
+    }
+
+    fn has(&self, c: char) -> bool
+        ensures { result ≡ is_in (set_of self.now) c }
+    {
+        !(self.is_path && c == '/') && self.is_among(c)
     }
 
     /// That of one character.
@@ -40,91 +48,102 @@ impl Set {
         Ok(Set {
             ranges,
             is_negated: false,
+            is_path: false,
         })
     }
 
     /// That of all characters, in a path but for `/`.
-    fn any_in(alloc: Global, is_path: bool) -> Result<Set, AllocError>
-        ensures { IfOk result (λ s. set_of s ≡ any_in is_path) }
+    fn any_in(alloc: Global, is_path: bool) -> Set
+        ensures { set_of result ≡ any_in is_path }
     {
-        let mut ranges = Vec::new(alloc);
-        if is_path {
-            ranges.push(('/', '/'))?;
+        Set {
+            ranges: Vec::new(alloc),
+            is_negated: true,
+            is_path,
+        }
+    }
+
+    /// That of a character which begins what does not end: in a path nothing matches it.
+    fn unended(alloc: Global, is_path: bool, c: char) -> Result<Set, AllocError>
+        ensures { IfOk result (λ s. set_of s ≡ unended is_path c) }
+    {
+        if !is_path {
+            return Set::just(alloc, c);
         }
         Ok(Set {
-            ranges,
-            is_negated: true,
+            ranges: Vec::new(alloc),
+            is_negated: false,
+            is_path: false,
         })
     }
+}
 
-    /// That between brackets, of which the second is at `end`.
-    fn bracketed(alloc: Global, is_path: bool, text: &[char], end: usize) -> Result<Set, AllocError>
-        requires after { before_members text.now ≤ end }
-        requires within { end ≤ length text.now }
-        ensures { IfOk result (λ s. set_of s ≡ set_in is_path text.now end) }
-    {
-        let is_negated = is_negation(text);
-        let mut ranges = ranges(alloc, &text[before_members(text)..end])?;
-        if is_path && is_negated {
-            ranges.push(('/', '/'))?;
+/// The members of a set, and whether it is one of other characters.
+fn after_negation(text: &[char]) -> (&[char], bool)
+    ensures members { (result.0.now, result.1) ≡ after_negation text.now }
+    ensures shorter { length result.0.now ≤ length text.now }
+{
+    match text {
+        [c, rest @ ..] if *c == '!' || *c == '^' => (rest, true),
+        _ => (text, false),
+    }
+}
+
+/// A member of a set, and what follows it: a backslash makes the next character an ordinary one.
+fn member(text: &[char]) -> Option<(char, &[char])>
+    ensures member { option_map (λ m. (m.0, m.1.now)) result ≡ member text.now }
+    ensures shorter { IfSome result (λ m. length m.1.now < length text.now) }
+{
+    match text {
+        ['\\', c, rest @ ..] => Some((*c, rest)),
+        ['\\'] | [] => None,
+        [c, rest @ ..] => Some((*c, rest)),
+    }
+}
+
+/// Members of a set and what follows them: `a-z` is a range, and any other character one of its own.
+fn range(text: &[char]) -> Option<((char, char), &[char])>
+    ensures range { option_map (λ m. (m.0, m.1.now)) result ≡ range text.now }
+    ensures shorter { IfSome result (λ m. length m.1.now < length text.now) }
+{
+    let (low, rest) = member(text)?;
+    match rest {
+        [dash, high, ..] if *dash == '-' && *high != ']' => {
+            let (high, after) = member(&rest[1..])?;
+            Some(((low, high), after))
         }
-        Ok(Set { ranges, is_negated })
+        _ => Some(((low, low), rest)),
     }
 }
 
-/// Whether a set is one of other characters.
-fn is_negation(text: &[char]) -> bool
-    ensures { result ≡ is_negation text.now }
+/// Whether a character ends a set.
+fn ends_set(c: char, is_first: bool) -> bool
+    ensures { result ≡ (c == 93 && not is_first) }
 {
-    match text.first() {
-        Some(c) => *c == '!' || *c == '^',
-        None => false,
-    }
+    c == ']' && !is_first
 }
 
-/// How many characters come before the members of a set.
-fn before_members(text: &[char]) -> usize
-    ensures { result ≡ before_members text.now }
-{
-    if is_negation(text) { 1 } else { 0 }
-}
-
-/// Where a set ends, if it does: at the first `]` that is not its first member.
-fn set_end(text: &[char]) -> Option<usize>
-    ensures end { result ≡ set_end text.now }
-    ensures within { IfSome result (λ end. end < length text.now) }
-    ensures after { IfSome result (λ end. before_members text.now ≤ end) }
-{
-    'members: for at in before_members(text) + 1..text.len() {
-        if text[at] == ']' {
-            return Some(at);
-        }
-    }
-    None
-}
-
-/// The members of a set: `a-z` is a range, and any other character one of its own.
-fn ranges(alloc: Global, members: &[char]) -> Result<Vec<(char, char)>, AllocError>
-    ensures { IfOk result (λ v. v.items ≡ ranges members.now) }
+/// The ranges of a set and what follows its end, if it ends: at the first `]` that is not its first member.
+fn ranges(alloc: Global, text: &[char]) -> Result<Option<(Vec<(char, char)>, &[char])>, AllocError>
+    ensures ranges { IfOk result (λ r. option_map (λ s. (s.0.items, s.1.now)) r
+        ≡ ranges (length text.now) true text.now) }
+    ensures shorter { IfOk result (λ r. IfSome r (λ s. length s.1.now ≤ length text.now)) }
 {
     let mut ranges = Vec::new(alloc);
-    let mut left = members;
-    while let [low, rest @ ..] = left {
-        let (high, others) = range_end(*low, rest);
-        ranges.push((*low, high))?;
-        left = others;
+    let mut left = text;
+    let mut is_first = true;
+    while let [c, after @ ..] = left {
+        if ends_set(*c, is_first) {
+            return Ok(Some((ranges, after)));
+        }
+        let Some((members, rest)) = range(left) else {
+            return Ok(None);
+        };
+        ranges.push(members)?;
+        left = rest;
+        is_first = false;
     }
-    Ok(ranges)
-}
-
-/// Where the range that begins with this member ends, and what follows it.
-fn range_end<'t>(low: char, rest: &'t [char]) -> (char, &'t [char])
-    ensures { (result.0, result.1.now) ≡ range_end low rest.now }
-{
-    match rest {
-        [dash, high, others @ ..] if *dash == '-' => (*high, others),
-        _ => (low, rest),
-    }
+    Ok(None)
 }
 
 impl Token {
@@ -167,38 +186,50 @@ impl Token {
     }
 }
 
-fn chars_of(alloc: Global, text: &str) -> Result<Vec<char>, AllocError>
+pub(crate) fn chars_of(alloc: Global, text: &str) -> Result<Vec<char>, AllocError>
     ensures { IfOk result (λ v. v.items ≡ chars text.now) }
 {
     text.chars().collect(alloc)
 }
 
 /// Whether the tokens match all of a name. It takes time for each pair of a token and a character.
-pub fn matches(alloc: Global, tokens: &[Token], name: &str) -> Result<bool, AllocError>
-    ensures { IfOk result (λ is. is ≡ matches (tokens_of tokens.now) (chars name.now)) }
+pub fn matches(alloc: Global, tokens: &[Token], name: &[char]) -> Result<bool, AllocError>
+    ensures { IfOk result (λ is. is ≡ matches (tokens_of tokens.now) name.now) }
 {
-    let name = chars_of(alloc, name)?;
     let mut row = Vec::new(alloc);
-    for c in &name {
+    for c in name {
         row.push(false)?;
     }
     row.push(true)?;
     let mut left = tokens.len();
     while left > 0 {
         left -= 1;
-        tokens[left].add_before(&name, &mut row);
+        tokens[left].add_before(name, &mut row);
     }
     Ok(row[0])
 }
 
-/// After a `*` where a name begins in a path: `**/` are folders, and `**` at the end is all that is below.
-fn starred(alloc: Global, text: &[char]) -> Result<(Token, &[char]), AllocError>
-    ensures { IfOk result (λ r. (token_of r.0, r.1.now) ≡ starred text.now) }
+/// What follows the first stars.
+fn after_stars(text: &[char]) -> &[char]
+    ensures after { result.now ≡ after_stars text.now }
+    ensures shorter { length result.now ≤ length text.now }
 {
     match text {
-        ['*', '/', rest @ ..] => Ok((Token::Folders, rest)),
-        ['*'] => Ok((Token::Any(Set::any_in(alloc, false)?), &[])),
-        _ => Ok((Token::Any(Set::any_in(alloc, true)?), text)),
+        ['*', rest @ ..] => after_stars(rest),
+        _ => text,
+    }
+}
+
+/// After a `*` where a name begins in a path: `**/` are folders, and `**` at the end is all that is below.
+fn starred(alloc: Global, text: &[char]) -> (Token, &[char])
+    ensures token { (token_of result.0, result.1.now) ≡ starred text.now }
+    ensures shorter { length result.1.now ≤ length text.now }
+{
+    let is_double = text.first() == Some(&'*');
+    match after_stars(text) {
+        ['/', rest @ ..] if is_double => (Token::Folders, rest),
+        [] if is_double => (Token::Any(Set::any_in(alloc, false)), &[]),
+        _ => (Token::Any(Set::any_in(alloc, true)), text),
     }
 }
 
@@ -213,67 +244,78 @@ fn first_of<'t>(
     ensures first { IfOk result (λ r. (token_of r.0, r.1.now) ≡ first_of is_path begins c text.now) }
     ensures shorter { IfOk result (λ r. length r.1.now ≤ length text.now) }
 {
-    if c == '*' && is_path && begins {
-        return starred(alloc, text);
+    match c {
+        '*' if is_path && begins => Ok(starred(alloc, text)),
+        '*' => Ok((Token::Any(Set::any_in(alloc, is_path)), text)),
+        '?' => Ok((Token::One(Set::any_in(alloc, is_path)), text)),
+        '\\' => escaped(alloc, is_path, text),
+        '[' => bracketed(alloc, is_path, text),
+        c => Ok((Token::One(Set::just(alloc, c)?), text)),
     }
-    if c == '*' {
-        return Ok((Token::Any(Set::any_in(alloc, is_path)?), text));
-    }
-    if c == '?' {
-        return Ok((Token::One(Set::any_in(alloc, is_path)?), text));
-    }
-    if c == '\\' {
-        return escaped(alloc, text);
-    }
-    if c == '[' {
-        if let Some(end) = set_end(text) {
-            let set = Set::bracketed(alloc, is_path, text, end)?;
-            return Ok((Token::One(set), &text[end + 1..]));
-        }
-    }
-    Ok((Token::One(Set::just(alloc, c)?), text))
 }
 
 /// A backslash makes the next character an ordinary one.
-fn escaped(alloc: Global, text: &[char]) -> Result<(Token, &[char]), AllocError>
-    ensures { IfOk result (λ r. (token_of r.0, r.1.now) ≡ escaped text.now) }
+fn escaped(alloc: Global, is_path: bool, text: &[char]) -> Result<(Token, &[char]), AllocError>
+    ensures { IfOk result (λ r. (token_of r.0, r.1.now) ≡ escaped is_path text.now) }
 {
     match text {
         [c, rest @ ..] => Ok((Token::One(Set::just(alloc, *c)?), rest)),
-        [] => Ok((Token::One(Set::just(alloc, '\\')?), text)),
+        [] => Ok((Token::One(Set::unended(alloc, is_path, '\\')?), text)),
     }
 }
 
-/// The tokens before a glob that may begin in any folder.
-fn tokens_before(alloc: Global, is_anywhere: bool) -> Result<Vec<Token>, AllocError>
+/// A set after `[`, if it ends.
+fn bracketed(alloc: Global, is_path: bool, text: &[char]) -> Result<(Token, &[char]), AllocError>
+    ensures set { IfOk result (λ r. (token_of r.0, r.1.now) ≡ bracketed is_path text.now) }
+    ensures shorter { IfOk result (λ r. length r.1.now ≤ length text.now) }
+{
+    let (members, is_negated) = after_negation(text);
+    match ranges(alloc, members)? {
+        Some((ranges, rest)) => Ok((
+            Token::One(Set {
+                ranges,
+                is_negated,
+                is_path,
+            }),
+            rest,
+        )),
+        None => Ok((Token::One(Set::unended(alloc, is_path, '[')?), text)),
+    }
+}
+
+/// The tokens before a glob, which may begin in any folder if it is for names.
+fn tokens_before(alloc: Global, is_path: bool) -> Result<Vec<Token>, AllocError>
     ensures { IfOk result (λ v. tokens_of v.items
-        ≡ if is_anywhere then Folders ∷ [] else []) }
+        ≡ if is_path then [] else Folders ∷ []) }
 {
     let mut tokens = Vec::new(alloc);
-    if is_anywhere {
+    if !is_path {
         tokens.push(Token::Folders)?;
     }
     Ok(tokens)
 }
 
-/// The tokens of a glob. In a path only `**` matches `/`, and a glob that may be anywhere may begin in any folder.
-pub fn glob_of(
-    alloc: Global,
-    is_path: bool,
-    is_anywhere: bool,
-    text: &str,
-) -> Result<Vec<Token>, AllocError>
-    ensures { IfOk result (λ v. tokens_of v.items
-        ≡ glob_of is_path is_anywhere (chars text.now)) }
+/// Whether a name begins after a token, which begins with this character.
+fn begins_after(c: char, token: &Token) -> bool
+    ensures { result ≡ begins_after c (token_of token.now) }
 {
-    let text = chars_of(alloc, text)?;
-    let mut tokens = tokens_before(alloc, is_anywhere)?;
-    let mut left = text.as_slice();
+    match token {
+        Token::Folders => true,
+        _ => c == '/',
+    }
+}
+
+/// The tokens of a glob. In a path only `**` matches `/`, and a glob for names may begin in any folder.
+pub fn glob_of(alloc: Global, is_path: bool, text: &[char]) -> Result<Vec<Token>, AllocError>
+    ensures { IfOk result (λ v. tokens_of v.items ≡ glob_of is_path text.now) }
+{
+    let mut tokens = tokens_before(alloc, is_path)?;
+    let mut left = text;
     let mut begins = true;
     while let [c, rest @ ..] = left {
         let (token, after) = first_of(alloc, is_path, begins, *c, rest)?;
+        begins = begins_after(*c, &token);
         tokens.push(token)?;
-        begins = *c == '/';
         left = after;
     }
     Ok(tokens)

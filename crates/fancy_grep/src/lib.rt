@@ -7,6 +7,7 @@ pub mod context;
 pub mod excerpt;
 pub mod files;
 pub mod globs;
+pub mod ignores;
 pub mod lines;
 pub mod matching;
 pub mod occurrences;

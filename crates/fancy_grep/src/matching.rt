@@ -6,7 +6,9 @@ ghost use Rattle.fancy_meaning.specs.Premises.{Input};
 ghost use Rattle.fancy_regex.specs.Regexes.{IsSame};
 ghost use Rattle.fancy_grep.specs.Context.{AreRising, numbers_of};
 ghost use Rattle.fancy_literals.specs.Required.{IsRequired, required_of};
-ghost use Rattle.fancy_grep.specs.Matching.{Grows, Helps, IsRegexFor, Selects, TakesLine, TellsMatch, has_match, is_chosen};
+ghost use Rattle.fancy_grep.specs.Matching.{Grows, Helps, IsRegexFor, Selects, TakesLine, TellsMatch, has_match, is_chosen, searched};
+ghost use Rattle.fancy_grep.specs.Lines.{line_of};
+ghost use Rattle.fancy_grep.specs.Standing.{IsLineIn};
 ghost use Rattle.fancy_grep.specs.Occurrences.{sought_in};
 
 use crate::budget::Budget;
@@ -50,6 +52,33 @@ pub struct MatchingLines<'t> {
     pub failure: Option<Failure>,
 }
 
+/// Which lines are selected.
+#[derive(Clone, Copy)]
+pub struct Choice {
+    /// Those without a match.
+    pub inverted: bool,
+    /// A carriage return at the end of a line is no part of what is searched.
+    pub has_returns: bool,
+}
+
+impl Choice {
+    /// What of a line is searched.
+    pub(crate) fn searched<'t>(self, line: Line<'t>) -> Line<'t>
+        ensures text { result.text.now ≡ searched self line.entry.text.now }
+        ensures stands { (text : List ℕ)
+            → IsLineIn text (line_of line.entry)
+            → IsLineIn text (line_of result) }
+    {
+        if !self.has_returns {
+            return line;
+        }
+        match line.text.strip_suffix('\r') {
+            Some(text) => Line { text, ..line },
+            None => line,
+        }
+    }
+}
+
 /// Whether a line is selected, by whether it has a match.
 fn is_chosen(inverted: bool, found: bool) -> bool
     ensures { result ≡ is_chosen inverted found }
@@ -78,18 +107,20 @@ fn has_match(
     regex: &mut Regex,
     sought: &mut Option<Occurrences<'_, '_>>,
     line: Line<'_>,
+    choice: Choice,
     budget: &mut Budget,
 ) -> Result<bool, Error>
     ensures promise { (i : Input)
         → (o : List ℕ → plain.RunOptions)
         → IsRegexFor i o regex.old
         → Helps i line.entry sought.old
-        → TellsMatch i o line.entry.text.now result }
+        → TellsMatch i o (searched choice line.entry.text.now) result }
     ensures sought { sought_in sought.new ≡ sought_in sought.old }
     ensures same { IsSame regex.old regex.new }
 {
-    if may_match(sought, line) {
-        let found = regex.is_match(line.text);
+    let part = choice.searched(line);
+    if may_match(sought, part) {
+        let found = regex.is_match(part.text);
         budget.spend(regex.work());
         found
     } else {
@@ -103,28 +134,28 @@ fn take<'t>(
     regex: &mut Regex,
     sought: &mut Option<Occurrences<'_, '_>>,
     line: Line<'t>,
-    inverted: bool,
+    choice: Choice,
     budget: &mut Budget,
 ) -> Result<(), Error>
     ensures promise { (i : Input)
         → (o : List ℕ → plain.RunOptions)
         → IsRegexFor i o regex.old
         → Helps i line.entry sought.old
-        → TakesLine i o inverted line.entry lines.old.items result lines.new.items }
+        → TakesLine i o choice line.entry lines.old.items result lines.new.items }
     ensures grows { Grows line.entry lines.old.items lines.new.items }
     ensures sought { sought_in sought.new ≡ sought_in sought.old }
     ensures same { IsSame regex.old regex.new }
 {
-    let found = has_match(regex, sought, line, budget)?;
-    if is_chosen(inverted, found) {
+    let found = has_match(regex, sought, line, choice, budget)?;
+    if is_chosen(choice.inverted, found) {
         lines.push(line)?;
     }
     Ok(())
 }
 
-/// The lines of a text in which the regex has a match, or under `inverted` those in which it has none, and `most` at most.
+/// The lines of a text in which the regex has a match, or if that is chosen those in which it has none, and `most` at most.
 ///
-/// Each line is searched as a text of its own, without its `\n`. Where it is known what each match takes, this is looked
+/// Each line is searched as a text of its own, without its `\n`, and without a `\r` before this if that is chosen. Where it is known what each match takes, this is looked
 /// for in the whole text, and the lines without it are not searched. An error of a search, or out of memory, ends
 /// the list at that line. So does a budget that the searches of the lines before it used up.
 pub fn matching_lines<'t>(
@@ -132,7 +163,7 @@ pub fn matching_lines<'t>(
     regex: &mut Regex,
     required: Option<&Required>,
     text: &'t str,
-    inverted: bool,
+    choice: Choice,
     most: usize,
     budget: &mut Budget,
 ) -> MatchingLines<'t>
@@ -140,7 +171,7 @@ pub fn matching_lines<'t>(
         → (o : List ℕ → plain.RunOptions)
         → IsRegexFor i o regex.old
         → IfSome required.entry (λ r. IsRequired (required_of r.now) true i)
-        → Selects i o inverted text.now most budget.new.left result }
+        → Selects i o choice text.now most budget.new.left result }
     ensures rising { AreRising 1 (numbers_of result.lines.items) }
     ensures same { IsSame regex.old regex.new }
 {
@@ -161,7 +192,7 @@ pub fn matching_lines<'t>(
                 failure: Some(Failure { number, cause }),
             };
         }
-        if let Err(error) = take(&mut lines, regex, &mut occurrences, line, inverted, budget) {
+        if let Err(error) = take(&mut lines, regex, &mut occurrences, line, choice, budget) {
             let cause = Cause::Search(error);
             let failure = Some(Failure { number, cause });
             return MatchingLines { lines, failure };

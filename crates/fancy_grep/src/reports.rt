@@ -76,17 +76,6 @@ impl<'t> Part<'t> {
             is_broken: false,
         }
     }
-
-    /// A line in this file, from its first byte on.
-    fn rest_of(self, line: Line<'t>) -> Rest<'t> {
-        Rest {
-            text: line.text,
-            bytes: self.bytes_of(line),
-            is_broken: self.is_broken,
-            start: 0,
-            passed: 0,
-        }
-    }
 }
 
 /// What is left of a line, as it reads and as it is in the file.
@@ -237,7 +226,7 @@ impl<'s> Search<'s> {
             &mut matcher.regex,
             matcher.required.as_ref(),
             part.text,
-            self.settings.inverted,
+            self.settings.choice,
             self.left(),
             &mut self.budget,
         );
@@ -536,18 +525,30 @@ impl<'p> Page<'p> {
         )
     }
 
+    /// A line, from its first byte on.
+    fn rest_of(&self, line: Line<'p>) -> Rest<'p> {
+        Rest {
+            text: self.settings.choice.searched(line).text,
+            bytes: self.part.bytes_of(line),
+            is_broken: self.part.is_broken,
+            start: 0,
+            passed: 0,
+        }
+    }
+
     /// Where a selected line is, as it is written, with the place of its first match.
     fn place_of(&self, regex: &mut Regex, line: Line<'p>) -> Result<Place, Error> {
         let place = Place {
             column: None,
             ..self.place_in(line, 0)
         };
-        if !self.settings.has_columns || self.settings.inverted {
+        if !self.settings.has_columns || self.settings.choice.inverted {
             return Ok(place);
         }
-        Ok(match regex.find(line.text)? {
+        let mut rest = self.rest_of(line);
+        Ok(match regex.find(rest.text)? {
             Some(found) => {
-                let before = self.part.rest_of(line).take_to(found.start());
+                let before = rest.take_to(found.start());
                 Place {
                     column: Some(before.len().saturating_add(1)),
                     ..place
@@ -577,7 +578,7 @@ impl<'p> Page<'p> {
     /// Writes what is asked for of a selected line.
     fn push_line(&self, out: &mut Output, regex: &mut Regex, line: Line<'p>) -> Result<(), Error> {
         match self.settings.report {
-            Report::Matches if self.settings.inverted => Ok(()),
+            Report::Matches if self.settings.choice.inverted => Ok(()),
             Report::Matches => self.push_matches(out, regex, line),
             _ => self.push_selected(out, regex, line),
         }
@@ -593,7 +594,7 @@ impl<'p> Page<'p> {
         push_prefix(&mut out.kept, self.style, place, ":")?;
         match self.settings.template {
             Some(template) => self.push_replaced(out, regex, line, template)?,
-            None if self.settings.has_colours && !self.settings.inverted => {
+            None if self.settings.has_colours && !self.settings.choice.inverted => {
                 self.push_coloured(out, regex, line)?
             }
             None => out.push(self.part.bytes_of(line))?,
@@ -609,8 +610,8 @@ impl<'p> Page<'p> {
         regex: &mut Regex,
         line: Line<'p>,
     ) -> Result<(), Error> {
-        let mut rest = self.part.rest_of(line);
-        for found in regex.find_iter(line.text) {
+        let mut rest = self.rest_of(line);
+        for found in regex.find_iter(rest.text) {
             let found = found?;
             out.push(rest.take_to(found.start()))?;
             let bytes = rest.take_to(found.end());
@@ -630,8 +631,8 @@ impl<'p> Page<'p> {
         line: Line<'p>,
         template: &str,
     ) -> Result<(), Error> {
-        let mut rest = self.part.rest_of(line);
-        for captures in regex.captures_iter(line.text) {
+        let mut rest = self.rest_of(line);
+        for captures in regex.captures_iter(rest.text) {
             let captures = captures?;
             let found = captures.get_match();
             out.push(rest.take_to(found.start()))?;
@@ -658,8 +659,8 @@ impl<'p> Page<'p> {
     }
 
     fn push_found(&self, out: &mut Output, regex: &mut Regex, line: Line<'p>) -> Result<(), Error> {
-        let mut rest = self.part.rest_of(line);
-        for found in regex.find_iter(line.text) {
+        let mut rest = self.rest_of(line);
+        for found in regex.find_iter(rest.text) {
             let found = found?;
             rest.take_to(found.start());
             let place = self.place_in(line, rest.passed);
@@ -675,8 +676,8 @@ impl<'p> Page<'p> {
         line: Line<'p>,
         template: &str,
     ) -> Result<(), Error> {
-        let mut rest = self.part.rest_of(line);
-        for captures in regex.captures_iter(line.text) {
+        let mut rest = self.rest_of(line);
+        for captures in regex.captures_iter(rest.text) {
             let captures = captures?;
             rest.take_to(captures.get_match().start());
             let mut part = String::new(self.alloc);
@@ -693,6 +694,9 @@ impl<'p> Page<'p> {
         }
         push_prefix(&mut out.kept, self.style, place, ":")?;
         push_painted(&mut out.kept, self.style.has_colours, MATCH, part)?;
+        if self.settings.choice.has_returns {
+            out.push(b"\r")?;
+        }
         out.end_line()
     }
 }

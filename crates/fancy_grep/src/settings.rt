@@ -4,6 +4,7 @@ ghost use Rattle.std.specs.Prelude.{◌≡◌};
 ghost use Rattle.fancy_grep.specs.Reports.{has_lines, has_name, is_decided_by_line};
 
 use crate::context::Context;
+use crate::matching::Choice;
 use crate::patterns::PatternOptions;
 use crate::rules::Rules;
 
@@ -59,8 +60,7 @@ pub struct Settings<'a> {
     pub is_recursive: bool,
     pub rules: Rules<'a>,
     pub report: Report,
-    /// Lines without a match are selected.
-    pub inverted: bool,
+    pub choice: Choice,
     /// At most so many lines of a text are selected.
     pub most: Option<usize>,
     /// Each line begins with its number.

@@ -1,8 +1,8 @@
 -- Places of a text, and one token more.
-use Rattle.std.proofs.Common.{◌≡◌, ◌<◌, ◌≤◌, ℕ, IsTrue, List, [], ◌∷◌, ◌++◌, length, nat_eq, nat_lt, true, false, refl, ap, ⊎_elim, sym, subst, ◌∙◌, arith}
+use Rattle.std.proofs.Common.{◌≡◌, ◌<◌, ℕ, IsTrue, List, [], ◌∷◌, ◌++◌, length, nat_eq, nat_lt, true, false, refl, sym, subst, arith}
 use Rattle.std.specs.Prelude.{IsUtf8}
-use Rattle.std.proofs.lemmas.Bool.{and_parts, true≢false}
-use Rattle.std.proofs.lemmas.Bool.Decides.{eqb_tells, nat_tests}
+use Rattle.std.proofs.lemmas.Bool.{and_parts}
+use Rattle.std.proofs.lemmas.Bool.Decides.{nat_tests}
 use Rattle.std.proofs.lemmas.Str.{IsCharBoundary-start}
 use Rattle.fancy_meaning.specs.Places.{is_place}
 use Rattle.fancy_laws.proofs.Characters.{place_of_cut}
@@ -17,13 +17,6 @@ last_place text = subst IsTrue (place_past text (length text) (omega arith)) (sa
   where
     same : (n : ℕ) → IsTrue (nat_eq n n)
     same n = grind (arith, nat_tests)
-
--- where none is, the text goes on
-pub before_end : (text : List ℕ) (i : ℕ) → i ≤ length text → is_place text i ≡ false → i < length text
-before_end text i within none = ⊎_elim
-    (λ same. absurd (true≢false (sym (last_place text) ∙ ap (is_place text) (sym same.1) ∙ none)))
-    (λ other. let ne = other.1 in omega (arith, within, ne))
-    (eqb_tells i (length text))
 
 pub first_place : (text : List ℕ) → IsUtf8 text → IsTrue (is_place text 0)
 first_place text utf8 = place_of_cut text 0 (IsCharBoundary-start text utf8)

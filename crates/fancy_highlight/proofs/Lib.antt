@@ -1,4 +1,4 @@
 pub mod BackReferences
 pub mod Covering
+pub mod Order
 pub mod Reports
-pub mod Stepping

@@ -1,12 +1,10 @@
 -- The patterns of ends that refer back to what their begin took.
-use Rattle.std.specs.Prelude.{◌-◌, ◌==◌, ◌&&◌, ◌||◌, ℕ, Bool, true, false, List, [], ◌∷◌, ◌++◌, Option, Some, None, chars, codes, if◌then◌else◌, is_some, nat_le, slice_range}
+use Rattle.std.specs.Prelude.{◌-◌, ◌==◌, ◌&&◌, ◌||◌, ℕ, Bool, true, false, List, [], ◌∷◌, ◌++◌, Option, Some, None, chars, if◌then◌else◌, is_some, nat_le, slice_range}
 use Rattle.fancy_meaning.specs.MatchState.{Span}
 use Rattle.fancy_matches.specs.Listing.{group_span}
 use Rattle.fancy_matches.specs.Matchers.{captures_text, numbers_in}
 use Rattle.fancy_matches.specs.declared.found.Captures.{Captures}
 use Rattle.fancy_pattern.specs.Escape.{escaped}
-use Rattle.fancy_highlight.specs.declared.references.Took.{Took}
-use Rattle.fancy_highlight.specs.declared.references.Took.TheVariants as took
 
 -- the group that a digit names
 abbrev pub group_of : ℕ → Option ℕ
@@ -17,10 +15,6 @@ abbrev pub refers : List ℕ → Bool
 refers [] = false
 refers (c ∷ []) = false
 refers (c ∷ d ∷ rest) = if c == 92 then is_some (group_of d) || refers rest else refers (d ∷ rest)
-
--- The end of a region with a `while`: where a line begins at which that pattern has no match.
-abbrev pub end_of_while : List ℕ → List ℕ
-end_of_while pattern = codes "^(?!(?:" ++ (pattern ++ codes "))")
 
 module _ (taken : ℕ → List ℕ) where
   -- what a group took, escaped, so that it is a pattern of this text alone
@@ -50,8 +44,3 @@ text_in text (Some span) = chars (slice_range text span.0 span.1)
 -- what the groups of a begin took
 abbrev pub taken_by : Captures → ℕ → List ℕ
 taken_by c group = text_in (captures_text c) (group_span (numbers_in c) group)
-
--- what stands in for it while rules are read: one character that takes as many bytes as a reference
-abbrev pub taken : Took → ℕ → List ℕ
-taken took.Sample group = codes "é"
-taken (took.Groups c) group = taken_by c.now group

@@ -1,38 +1,18 @@
 -- Rules that are left out.
-use Rattle.std.specs.Prelude.{◌==◌, ◌&&◌, ℕ, Bool, true, false, not, IsTrue, List, [], ◌∷◌, slice_index_or}
+use Rattle.std.specs.Prelude.{◌==◌, ◌&&◌, ℕ, Bool, true, not, IsTrue, List, [], ◌∷◌}
 use Rattle.std.specs.List.{list_all, list_any}
 use Rattle.fancy_meaning.specs.Places.{is_place}
-use Rattle.fancy_expr.specs.declared.error.CompileError.TheVariants as compile
-use Rattle.fancy_tokens.specs.declared.error.ErrorKind.TheVariants as kind
 use Rattle.fancy_regex.specs.declared.error.Error.{Error}
 use Rattle.fancy_regex.specs.declared.error.Error.TheVariants as error
 use Rattle.fancy_scanner.specs.declared.scan_limit.ScanLimit.{ScanLimit}
 use Rattle.fancy_scanner.specs.declared.scan_limit.ScanLimit.TheVariants as limit
 use Rattle.fancy_highlight.specs.declared.left_out.LeftOut.{LeftOut}
 
--- A pattern exceeds a limit, and is not wrong: the nesting of its text, the size of its program or of a class, the nesting
--- of its nodes where they are written out, or the work of its analysis.
-abbrev pub is_limit : Error → Bool
-is_limit (error.ParseError at kind.RecursionExceeded) = true
-is_limit (error.CompileError compile.PatternTooComplex) = true
-is_limit (error.CompileError (compile.ClassTooBig text)) = true
-is_limit error.NestLimitExceeded = true
-is_limit error.AnalysisLimitExceeded = true
-is_limit e = false
-
 -- the error of a search that exceeded a limit
 abbrev pub error_of : ScanLimit → Error
 error_of (limit.RuntimeError e) = error.RuntimeError e
 error_of limit.VisitLimitExceeded = error.VisitLimitExceeded
 error_of limit.MemoryLimitExceeded = error.MemoryLimitExceeded
-
--- the rule with this number is left out
-abbrev pub is_omitted : List Bool → ℕ → Bool
-is_omitted flags rule = slice_index_or flags rule false
-
--- each is
-abbrev pub are_omitted : List Bool → List LeftOut → Bool
-are_omitted flags reports = list_all (λ r. is_omitted flags r.rule) reports
 
 -- this rule is reported
 abbrev pub is_reported : List LeftOut → ℕ → Bool

@@ -1,7 +1,6 @@
 pub mod Ends
 pub mod Frames
 pub mod LeftOut
-pub mod Runs
 pub mod Scopes
 pub mod Tokens
 pub mod Writers

@@ -1,5 +1,5 @@
 -- The names of scopes.
-use Rattle.std.specs.Prelude.{ℕ, zero, suc, List, [], ◌∷◌, ◌++◌, length, Option, Some, option_and_then, slice_get}
+use Rattle.std.specs.Prelude.{ℕ, zero, suc, List, [], ◌∷◌, Option, option_and_then, slice_get}
 use Rattle.std.specs.Option.{option_map_or}
 use Rattle.fancy_highlight.specs.declared.scopes.Names.{Names}
 use Rattle.fancy_highlight.specs.declared.scopes.Scope.{Scope}
@@ -7,12 +7,6 @@ use Rattle.fancy_highlight.specs.declared.scopes.Scopes.{Scopes}
 
 abbrev pub scopes_in : Scopes → List Scope
 scopes_in s = s.scopes.items
-
--- the scopes after these names are entered within another one, each within the one before, and the innermost
-abbrev pub entered : List Scope → Option ℕ → List ℕ → List Scope × Option ℕ
-entered scopes outer [] = (scopes, outer)
-entered scopes outer (name ∷ names) =
-    entered (scopes ++ record { outer = outer; name = name } ∷ []) (Some (length scopes)) names
 
 -- the names of a scope of these, the innermost first, and at most so many
 abbrev pub names_within : List Scope → ℕ → Option ℕ → List ℕ

@@ -1,129 +1,140 @@
-//! Regions that are open.
+//! Regions that are open, and the order in which patterns are tried in them.
 
-ghost use Rattle.std.specs.Prelude.{◌≡◌, ◌==◌, ◌++◌, IfOk, OnOk, Some};
-ghost use Rattle.std.specs.Option.{option_eq};
-ghost use Rattle.fancy_highlight.specs.Frames.{order_with, role_in, tree_tried, trees_tried};
+ghost use Rattle.std.specs.Prelude.{◌≡◌, slice_get};
+ghost use Rattle.fancy_highlight.specs.Frames.{order_with};
 
-use crate::grammar::{Context, Region, Tried};
-use crate::omitted::Omitted;
 use std::alloc::{AllocError, Global};
 
-/// The place of the end in the order, and the number of its tree.
-#[derive(Clone, Copy)]
+/// How a region ends.
+#[derive(Clone, Copy, Debug, PartialEq, Eq)]
 pub(crate) enum EndPlace {
-    Nowhere,
+    Never,
+    /// By the pattern with this number, which is tried before the rules.
     First(usize),
+    /// By the pattern with this number, which is tried after the rules.
     Last(usize),
-}
-
-/// What a match is of.
-#[derive(Clone, Copy)]
-pub(crate) enum Role {
-    End,
-    /// The rule with this number.
-    Rule(usize),
+    /// Where a line begins in which the pattern with this number has no match.
+    While(usize),
 }
 
 /// A region that is open, or what is outside all regions.
-#[derive(Drop)]
-pub(crate) struct Frame<'g> {
-    /// The number of its rule; how many rules there are, if it is no region.
+#[derive(Clone, Copy, Debug, PartialEq, Eq)]
+pub(crate) struct Frame {
+    /// The number of its rule.
     pub(crate) rule: usize,
-    /// The rule of the region, if it is one.
-    pub(crate) region: Option<&'g Region>,
-    pub(crate) context: &'g Context,
     pub(crate) end: EndPlace,
-    /// Where the begin took nothing, if it did.
-    pub(crate) entered: Option<usize>,
+    /// Its begin ended where its line ended.
+    pub(crate) is_at_line_end: bool,
     /// The scope of its begin and end.
     pub(crate) outer: usize,
     /// The scope of what is in it.
     pub(crate) inner: usize,
 }
 
-/// The number of the tree that is tried for a rule; of one that is left out it is a number that no tree has.
-fn tree_tried(rule: Tried, omitted: &Omitted<'_>) -> usize
-    ensures { result ≡ tree_tried omitted.now.flags.items rule }
+/// A pattern that is tried.
+#[derive(Clone, Copy, Debug, PartialEq, Eq)]
+pub(crate) struct Tried {
+    /// The number of the rule that it is of.
+    pub(crate) rule: usize,
+    /// The number of the pattern.
+    pub(crate) pattern: usize,
+    /// It is the end of the region that is open.
+    pub(crate) is_end: bool,
+}
+
+/// The pattern with this index.
+fn rule_at(rules: &[Tried], index: usize) -> Option<Tried>
+    ensures { result ≡ slice_get rules.now index }
 {
-    if omitted.has(rule.rule) {
-        usize::MAX
-    } else {
-        rule.tree
+    match rules.get(index) {
+        Some(tried) => Some(*tried),
+        None => None,
     }
 }
 
-impl<'g> Frame<'g> {
+/// The pattern that is tried at this place of the order: that of the end at `place`, and those of the rules around it.
+pub(crate) fn tried_at(
+    end: Option<Tried>,
+    place: usize,
+    rules: &[Tried],
+    index: usize,
+) -> Option<Tried>
+    ensures { result ≡ slice_get (order_with end place rules.now) index }
+{
+    match end {
+        Some(end) if index == place.min(rules.len()) => Some(end),
+        Some(_) if index > place.min(rules.len()) => rule_at(rules, index - 1),
+        _ => rule_at(rules, index),
+    }
+}
+
+impl Frame {
+    /// The pattern of its end, if it is tried beside the rules.
+    pub(crate) fn end(&self) -> Option<Tried> {
+        match self.end {
+            EndPlace::First(pattern) | EndPlace::Last(pattern) => Some(Tried {
+                rule: self.rule,
+                pattern,
+                is_end: true,
+            }),
+            EndPlace::Never | EndPlace::While(_) => None,
+        }
+    }
+}
+
+/// The regions that are open, the innermost last.
+#[derive(Clone, Debug, PartialEq, Eq, Drop)]
+pub(crate) struct Stack {
     /// What is outside all regions.
-    pub(crate) fn root(rules: usize, context: &'g Context, scope: usize) -> Frame<'g> {
-        Frame {
-            rule: rules,
-            region: None,
-            context,
-            end: EndPlace::Nowhere,
-            entered: None,
-            outer: scope,
-            inner: scope,
+    pub(crate) root: Frame,
+    pub(crate) frames: Vec<Frame>,
+    /// The places in `frames` of those that end by a `while`.
+    pub(crate) whiles: Vec<usize>,
+}
+
+impl Stack {
+    /// Nothing is open in what these rules apply to.
+    pub(crate) fn new(alloc: Global, rule: usize, scope: usize) -> Stack {
+        Stack {
+            root: Frame {
+                rule,
+                end: EndPlace::Never,
+                is_at_line_end: false,
+                outer: scope,
+                inner: scope,
+            },
+            frames: Vec::new(alloc),
+            whiles: Vec::new(alloc),
         }
     }
 
-    /// Adds the trees of the rules in it, in their order.
-    fn push_trees(&self, order: &mut Vec<usize>, omitted: &Omitted<'_>) -> Result<(), AllocError>
-        ensures { OnOk result (order.new.items ≡ order.old.items
-            ++ trees_tried omitted.now.flags.items self.now.context.now.rules.items) }
-    {
-        for rule in &self.context.rules {
-            order.push(tree_tried(*rule, omitted))?;
+    /// The innermost region, or what is outside all.
+    pub(crate) fn top(&self) -> Frame {
+        match self.frames.last() {
+            Some(frame) => *frame,
+            None => self.root,
         }
+    }
+
+    /// Opens a region.
+    pub(crate) fn push(&mut self, frame: Frame) -> Result<(), AllocError> {
+        if let EndPlace::While(_) = frame.end {
+            self.whiles.push(self.frames.len())?;
+        }
+        self.frames.push(frame)?;
         Ok(())
     }
 
-    /// The numbers of the trees that are searched for, in the order in which they are tried: the end, and then the rules in
-    /// it; or the end last.
-    pub(crate) fn order(
-        &self,
-        alloc: Global,
-        omitted: &Omitted<'_>,
-    ) -> Result<Vec<usize>, AllocError>
-        ensures { IfOk result (λ order. order.items ≡ order_with self.now.end
-            (trees_tried omitted.now.flags.items self.now.context.now.rules.items)) }
-    {
-        let mut order = Vec::new(alloc);
-        if let EndPlace::First(end) = self.end {
-            order.push(end)?;
-        }
-        self.push_trees(&mut order, omitted)?;
-        if let EndPlace::Last(end) = self.end {
-            order.push(end)?;
-        }
-        Ok(order)
-    }
-
-    /// What a match is of, whose tree is at this place of the order.
-    pub(crate) fn role(&self, index: usize) -> Option<Role>
-        ensures { result ≡ role_in self.now.end self.now.context.now.rules.items index }
-    {
-        let index = match self.end {
-            EndPlace::First(_) if index == 0 => return Some(Role::End),
-            EndPlace::First(_) => index - 1,
-            EndPlace::Last(_) if index == self.context.rules.len() => return Some(Role::End),
-            _ => index,
-        };
-        match self.context.rules.get(index) {
-            Some(tried) => Some(Role::Rule(tried.rule)),
-            None => None,
-        }
-    }
-
-    /// It was entered at this place by a begin that took nothing.
-    pub(crate) fn is_entered_at(&self, at: usize) -> bool {
-        self.entered == Some(at)
-    }
-
-    /// It is a region of the rule whose begin is the tree with this number.
-    pub(crate) fn begins_with(&self, begin: usize) -> bool {
-        match self.region {
-            Some(region) => region.begin == begin,
-            None => false,
+    /// Closes all regions but the first `depth`.
+    pub(crate) fn truncate(&mut self, depth: usize) {
+        self.frames.truncate(depth);
+        for _ in 0..self.whiles.len() {
+            match self.whiles.last() {
+                Some(last) if *last >= depth => {
+                    let _ = self.whiles.pop();
+                }
+                _ => return,
+            }
         }
     }
 }

@@ -1,69 +1,127 @@
-//! `Highlighter`: the rules of a language, ready to be applied.
+//! `Highlighter`: the rules of grammars, ready to be applied.
 
-ghost use Rattle.std.specs.Prelude.{◌≡◌, IfOk, option_map, slice_get, string_bytes};
+ghost use Rattle.std.specs.Prelude.{IfOk};
 ghost use Rattle.fancy_highlight.specs.LeftOut.{AreReported};
 ghost use Rattle.fancy_highlight.specs.Tokens.{Covers};
 
 use crate::error::GrammarError;
-use crate::grammar::Grammar;
-use crate::left_out::LeftOut;
+use crate::frames::Stack;
+use crate::lines::Lines;
+use crate::omitted::Reports;
 use crate::reader::read_grammar;
-use crate::run::Run;
-use crate::tokens::Highlights;
-use fancy_scanner::scanner::TreeScanner;
+use crate::scopes::Scopes;
+use crate::state::State;
+use crate::tokens::{Highlights, LineTokens};
+use crate::writer::Writer;
 use std::alloc::{AllocError, Global};
-use std::collections::BTreeMap;
 
-/// The rules of a language, with their patterns compiled.
+/// The rules of a grammar, and of those that it includes. A pattern is compiled when it is tried first.
 #[derive(Drop)]
 pub struct Highlighter {
     alloc: Global,
-    grammar: Grammar,
-    scanner: TreeScanner,
-    /// The trees of ends that refer back, by their patterns.
-    ends: BTreeMap<String, usize>,
+    lines: Lines,
+    /// The scope of the grammar's own name.
+    scope: usize,
 }
 
 impl Highlighter {
-    /// Reads rules in JSON, in the shape of a TextMate grammar. Their patterns are compiled and searched for with the
-    /// default limits of `Regex`; a rule with a pattern that exceeds one is left out (`left_out`).
+    /// Reads a grammar in the form of TextMate's, in JSON or as a property list in XML. What it has that no grammar should
+    /// have is passed over.
     pub fn new(alloc: Global, rules: &str) -> Result<Highlighter, GrammarError> {
-        let (grammar, scanner) = read_grammar(alloc, rules)?;
+        let mut lines = Lines::new(alloc);
+        lines.add(None, rules)?;
+        let scope = lines.root_scope()?;
         Ok(Highlighter {
             alloc,
-            grammar,
-            scanner,
-            ends: BTreeMap::new(alloc),
+            lines,
+            scope,
         })
     }
 
-    /// The rules that are left out of each text, because a pattern of theirs exceeds a limit where it is compiled.
-    pub fn left_out(&self) -> &[LeftOut] {
-        &self.grammar.left_out
+    /// Reads another grammar, which the rules may include by this name.
+    pub fn add_grammar(&mut self, name: &str, rules: &str) -> Result<(), GrammarError> {
+        self.lines.add(Some(name), rules)
     }
 
-    /// The name with this number.
-    pub fn name(&self, number: usize) -> Option<&str>
-        ensures { option_map (λ name. name.now) result
-            ≡ option_map string_bytes (slice_get self.now.grammar.names.items number) }
-    {
-        match self.grammar.names.get(number) {
-            Some(name) => Some(name.as_str()),
-            None => None,
+    /// The includes of other grammars that named nothing while lines were highlighted, each once: `name`, or `name#rule`. If
+    /// [`add_grammar`](Highlighter::add_grammar) adds one, highlight these lines anew.
+    pub fn wanted(&self) -> &[String] {
+        &self.lines.contexts.wanted
+    }
+
+    /// The includes that name no rule of their own grammar, each once, behind the grammar's name.
+    pub fn missing(&self) -> &[String] {
+        &self.lines.library.missing
+    }
+
+    /// The scopes of all tokens so far, and their names.
+    pub fn scopes(&self) -> &Scopes {
+        &self.lines.scopes
+    }
+
+    /// The state before the first line of a text.
+    pub fn state(&self) -> State {
+        State {
+            is_first: true,
+            stack: Stack::new(self.alloc, 0, self.scope),
+            left_out: Vec::new(self.alloc),
         }
     }
 
-    /// The tokens of the text, from its start to its end. A rule is left out from that place of the text on from which a
-    /// search for a pattern of it exceeds a limit, and so is one whose end refers back, and is no pattern for what its begin
-    /// matched. Each is reported once. The only error is out of memory.
-    pub fn highlight(&mut self, text: &str) -> Result<Highlights, AllocError>
-        ensures covers { IfOk result (λ highlights. Covers text.now highlights.tokens.items) }
-        ensures reported { IfOk result (λ highlights.
-            AreReported text.now highlights.left_out.items) }
+    /// The line in a state, with the line feed that it may lack.
+    fn line(&mut self, line: &str, state: State) -> Result<LineTokens, AllocError> {
+        if line.ends_with('\n') {
+            return self.lines.line(line, state);
+        }
+        let whole = format!(in self.alloc; "{line}\n")?;
+        self.lines.line(whole.as_str(), state)
+    }
+
+    /// The tokens of one line of a text, which may end in a line feed, and the state after it. Bytes count from the beginning
+    /// of the line. The state before it is that after the line before, or [`state`](Highlighter::state). A rule is left out
+    /// from that place on where a pattern of it is refused, or where a search for it exceeds a limit. The only error is out
+    /// of memory.
+    ///
+    /// An editor keeps the state after each line. When a line changes, it asks for the tokens from that line on, until a
+    /// state is what it was.
+    pub fn tokens(&mut self, line: &str, state: &State) -> Result<LineTokens, AllocError>
+        ensures covers { IfOk result (λ t. Covers line.now t.tokens.items) }
+        ensures reported { IfOk result (λ t. AreReported line.now t.left_out.items) }
     {
-        let mut cache = self.scanner.create_cache();
-        let scan = self.scanner.scan(text, &mut cache);
-        let run = Run::new(self.alloc, &self.grammar, scan, &mut self.ends)?;
-        run.finish()
+        let found = self.line(line, state.clone()?)?;
+        let mut writer = Writer::new(self.alloc, line);
+        writer.write_all(0, &found.tokens)?;
+        writer.write_rest(self.scope)?;
+        let mut reports = Reports::new(self.alloc, line);
+        reports.push_all(0, found.left_out)?;
+        Ok(LineTokens {
+            tokens: writer.into_tokens(),
+            left_out: reports.into_reports(),
+            state: found.state,
+        })
+    }
+
+    /// The tokens of a text, from its start to its end: those of its lines, as [`tokens`](Highlighter::tokens) gives them.
+    /// Bytes count from the beginning of the text. The only error is out of memory.
+    pub fn highlight(&mut self, text: &str) -> Result<Highlights, AllocError>
+        ensures covers { IfOk result (λ h. Covers text.now h.tokens.items) }
+        ensures reported { IfOk result (λ h. AreReported text.now h.left_out.items) }
+    {
+        let mut writer = Writer::new(self.alloc, text);
+        let mut reports = Reports::new(self.alloc, text);
+        let mut state = self.state();
+        let mut start = 0usize;
+        for line in text.split_inclusive('\n') {
+            let found = self.line(line, state)?;
+            writer.write_all(start, &found.tokens)?;
+            reports.push_all(start, found.left_out)?;
+            start = start.saturating_add(line.len());
+            state = found.state;
+        }
+        writer.write_rest(self.scope)?;
+        Ok(Highlights {
+            tokens: writer.into_tokens(),
+            left_out: reports.into_reports(),
+        })
     }
 }

@@ -4,35 +4,23 @@ ghost use Rattle.std.specs.Prelude.{◌≡◌};
 ghost use Rattle.fancy_highlight.specs.LeftOut as left_out;
 
 pub use fancy_regex::Error;
-use fancy_regex::{CompileError, ParseErrorKind, ScanLimit};
+use fancy_regex::ScanLimit;
 
 /// A rule that is left out.
 #[derive(Debug, Drop)]
 pub struct LeftOut {
     /// Which rule of the grammar it is.
     pub rule: usize,
-    /// The path of its pattern in the rules, as a JSON pointer: that of the rule, and the pattern's key.
+    /// The path of its pattern, as a JSON pointer: that of the rule, and the pattern's key. In a grammar that another one
+    /// includes, it is behind the grammar's name.
     pub path: String,
     /// The `name` of the rule; empty if it has none.
     pub name: String,
-    /// The byte of the text from which on it is left out.
+    /// The byte of the text or of the line from which on it is left out.
     pub at: usize,
-    /// The limit that the pattern exceeds; or why an end that refers back is no pattern for what its begin matched.
+    /// Why the pattern is refused, or the limit that a search for it exceeds. An end that refers back may be refused for what
+    /// its begin matched.
     pub error: Error,
-}
-
-/// The error says that a pattern exceeds a limit, and not that it is wrong.
-pub(crate) fn is_limit(error: &Error) -> bool
-    ensures { result ≡ left_out.is_limit error.now }
-{
-    match error {
-        Error::ParseError(_, ParseErrorKind::RecursionExceeded) => true,
-        Error::CompileError(CompileError::PatternTooComplex) => true,
-        Error::CompileError(CompileError::ClassTooBig(_)) => true,
-        Error::NestLimitExceeded => true,
-        Error::AnalysisLimitExceeded => true,
-        _ => false,
-    }
 }
 
 /// The error of a search that exceeded this limit.

@@ -1,61 +1,60 @@
-//! Which rules are left out of a text from some place on.
+//! Reports of rules that are left out of a text from some place on.
 
-ghost use Rattle.std.specs.Prelude.{◌≡◌, IfOk, IsTrue};
-ghost use Rattle.fancy_meaning.specs.Places.{is_place};
-ghost use Rattle.fancy_highlight.specs.LeftOut.{AreReported, are_omitted, are_once, are_placed, is_omitted};
+ghost use Rattle.std.specs.Prelude.{◌≡◌, IsTrue};
+ghost use Rattle.fancy_highlight.specs.LeftOut.{AreReported, are_once, are_placed, is_reported};
 
 use crate::left_out::LeftOut;
+use fancy_characters::places::is_place;
 use std::alloc::{AllocError, Global};
 
-/// The rules that are left out of a text.
+/// The reports of the rules that are left out of a text, each once.
 #[derive(Drop)]
-pub(crate) struct Omitted<'t> {
+pub(crate) struct Reports<'t> {
     pub(crate) text: &'t str,
-    /// Whether the rule with this number is one.
-    pub(crate) flags: Vec<bool>,
-    /// Each of them, in the order in which they were left out.
     reports: Vec<LeftOut>,
     ghost placed: { IsTrue (are_placed text.now reports.items) },
-    ghost omitted: { IsTrue (are_omitted flags.items reports.items) },
     ghost once: { IsTrue (are_once reports.items) },
 }
 
-impl<'t> Omitted<'t> {
-    /// None of this number of rules is left out.
-    pub(crate) fn new(alloc: Global, text: &'t str, rules: usize) -> Result<Omitted<'t>, AllocError>
-        ensures { IfOk result (λ omitted. omitted.text.now ≡ text.now) }
+impl<'t> Reports<'t> {
+    pub(crate) fn new(alloc: Global, text: &'t str) -> Reports<'t>
+        ensures { result.text.now ≡ text.now }
     {
-        Ok(Omitted {
+        Reports {
             text,
-            flags: vec![in alloc; false; rules]?,
             reports: Vec::new(alloc),
-        })
-    }
-
-    /// The rule with this number is left out.
-    pub(crate) fn has(&self, rule: usize) -> bool
-        ensures { result ≡ is_omitted self.now.flags.items rule }
-    {
-        match self.flags.get(rule) {
-            Some(flag) => *flag,
-            None => false,
         }
     }
 
-    /// Leaves a rule out, and reports it once.
-    pub(crate) fn push(&mut self, report: LeftOut) -> Result<(), AllocError>
-        requires { IsTrue (is_place self.old.text.now report.at) }
+    /// The rule with this number is reported.
+    fn has(&self, rule: usize) -> bool
+        ensures { result ≡ is_reported self.now.reports.items rule }
+    {
+        self.reports.iter().any(|report| report.rule == rule)
+    }
+
+    /// Adds a report of a rule that is not reported yet.
+    fn push(&mut self, report: LeftOut) -> Result<(), AllocError>
         ensures { self.new.text.now ≡ self.old.text.now }
     {
-        let rule = report.rule;
-        if rule < self.flags.len() && !self.flags[rule] {
-            self.flags[rule] = true;
+        if is_place(self.text.as_bytes(), report.at) && !self.has(report.rule) {
             self.reports.push(report)?;
         }
         Ok(())
     }
 
-    /// A report of each of them.
+    /// Adds reports whose bytes count from this one of the text on.
+    pub(crate) fn push_all(&mut self, start: usize, reports: Vec<LeftOut>) -> Result<(), AllocError>
+        ensures { self.new.text.now ≡ self.old.text.now }
+    {
+        for report in reports {
+            let at = start.saturating_add(report.at);
+            self.push(LeftOut { at, ..report })?;
+        }
+        Ok(())
+    }
+
+    /// The reports.
     pub(crate) fn into_reports(self) -> Vec<LeftOut>
         ensures { AreReported self.entry.text.now result.items }
     {

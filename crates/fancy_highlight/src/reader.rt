@@ -1,14 +1,14 @@
-//! The reader of rules, in the shape of TextMate grammars.
+//! The reader of grammars.
 
-use crate::contexts::Rules;
-use crate::error::{Fault, GrammarError};
-use crate::grammar::{End, Grammar, GroupNames, MatchRule, Region, Rule};
-use crate::left_out::{LeftOut, is_limit};
-use crate::patterns::{check_sample, compile};
-use crate::references::{Took, end_of_while, refers};
-use crate::values::{Part, kind_of};
-use fancy_regex::Error;
-use fancy_scanner::scanner::TreeScanner;
+use crate::error::GrammarError;
+use crate::names::Name;
+use crate::patterns::Patterns;
+use crate::plist::json_of;
+use crate::references::refers;
+use crate::rules::{Capture, End, EndKind, Grammar, Injection, Kind, Library, Region, Rule};
+use crate::scopes::Scopes;
+use crate::selectors::alternatives;
+use crate::values::{flag, kind_of, pattern, text};
 use serde_json::Value;
 use std::alloc::{AllocError, Global};
 use std::collections::BTreeMap;
@@ -16,380 +16,395 @@ use std::collections::BTreeMap;
 /// How deep rules may nest in one another: deeper than JSON nests that can be read.
 const MOST_DEPTH: usize = 250;
 
-/// Reads rules: those that are read so far, and the scanner of their patterns.
+/// Reads the rules of one grammar.
 #[derive(Drop)]
-pub(crate) struct Reader {
+pub(crate) struct Reader<'r> {
     alloc: Global,
-    rules: Vec<Rule>,
-    /// The `name` of each rule, empty if it has none.
-    labels: Vec<String>,
-    /// The rules that are left out.
-    left_out: Vec<LeftOut>,
-    names: Vec<String>,
-    scanner: TreeScanner,
-    /// How many trees the scanner has.
-    trees: usize,
+    library: &'r mut Library,
+    patterns: &'r mut Patterns,
+    scopes: &'r mut Scopes,
+    /// The name of the grammar.
+    scope: &'r str,
+    /// The number of the rule that has all rules of the grammar in it.
+    root: usize,
+    /// The repositories around a rule, the innermost last: the numbers of their rules.
+    repositories: Vec<BTreeMap<String, usize>>,
 }
 
-impl Reader {
-    fn new(alloc: Global) -> Reader {
-        Reader {
-            alloc,
-            rules: Vec::new(alloc),
-            labels: Vec::new(alloc),
-            left_out: Vec::new(alloc),
-            names: Vec::new(alloc),
-            scanner: TreeScanner::new(alloc),
-            trees: 0,
-        }
-    }
-
-    /// Adds a rule that stands for nothing yet, and answers its number.
-    fn add_rule(&mut self, part: &Part<'_>) -> Result<usize, AllocError> {
-        let number = self.rules.len();
-        let label = part.label(self.alloc)?;
-        self.labels.push(label)?;
-        self.rules.push(Rule::List(Vec::new(self.alloc)))?;
+impl Reader<'_> {
+    /// Adds a rule in which nothing is, and returns its number.
+    fn add(&mut self, path: String) -> Result<usize, AllocError> {
+        let number = self.library.rules.len();
+        self.library.rules.push(Rule {
+            path,
+            label: String::new(self.alloc),
+            name: Name::Fixed(Vec::new(self.alloc)),
+            patterns: Vec::new(self.alloc),
+            kind: Kind::List,
+        })?;
         Ok(number)
     }
 
-    /// Sets what the rule with this number is.
-    fn set_rule(&mut self, number: usize, rule: Rule) {
-        if let Some(place) = self.rules.get_mut(number) {
-            *place = rule;
-        }
-    }
-
-    /// The `name` of the rule with this number.
-    fn label(&self, rule: usize) -> &str {
-        match self.labels.get(rule) {
-            Some(label) => label.as_str(),
+    /// The path of a rule that is in the one with this number.
+    fn path(&self, number: usize, member: &str, key: &str) -> Result<String, AllocError> {
+        let path = match self.library.rules.get(number) {
+            Some(rule) => rule.path.as_str(),
             None => "",
+        };
+        format!(in self.alloc; "{path}/{member}/{key}")
+    }
+
+    /// The name that the member is; none if there is no such member.
+    fn name(&mut self, value: &Value, member: &str) -> Result<Name, AllocError> {
+        let name = text(value, member).unwrap_or("");
+        if name.contains('$') {
+            return Ok(Name::Made(String::from_str(self.alloc, name)?));
+        }
+        let mut numbers = Vec::new(self.alloc);
+        for name in name.split_whitespace() {
+            let number = self.scopes.name_number(name)?;
+            numbers.push(number)?;
+        }
+        Ok(Name::Fixed(numbers))
+    }
+
+    /// By what a region ends, or goes on, whose member this is.
+    fn end(&mut self, value: &Value, member: &str) -> Result<End, AllocError> {
+        match text(value, member) {
+            None => Ok(End::Never),
+            Some(end) if refers(end) => Ok(End::Refers(String::from_str(self.alloc, end)?)),
+            Some(end) => Ok(End::Pattern(self.patterns.number(end, false)?)),
         }
     }
 
-    /// Leaves a rule out that has this error, if it says that a pattern exceeds a limit.
-    fn leave_out(&mut self, rule: usize, error: GrammarError) -> Result<(), GrammarError> {
-        match error {
-            GrammarError::At { path, fault } => match fault {
-                Fault::Pattern(error) => self.leave_out_by(rule, path, error),
-                fault => Err(GrammarError::At { path, fault }),
-            },
-            error => Err(error),
+    /// The number of the rule of this name in the innermost repository that has it.
+    fn named(&mut self, name: &str) -> Result<Option<usize>, AllocError> {
+        for repository in self.repositories.iter().rev() {
+            if let Some(number) = repository.get(name) {
+                return Ok(Some(*number));
+            }
+        }
+        let scope = self.scope;
+        let include = format!(in self.alloc; "{scope}#{name}")?;
+        let is_known = self
+            .library
+            .missing
+            .iter()
+            .any(|missing| missing.as_str() == include.as_str());
+        if !is_known {
+            self.library.missing.push(include)?;
+        }
+        Ok(None)
+    }
+
+    /// The number of the rule that an include stands for, if it is there.
+    fn include(&mut self, include: &str, path: String) -> Result<Option<usize>, AllocError> {
+        if include == "$self" {
+            return Ok(Some(self.root));
+        }
+        if include == "$base" {
+            return Ok(Some(0));
+        }
+        if let Some(name) = include.strip_prefix('#') {
+            return self.named(name);
+        }
+        let (scope, name) = include.split_once('#').unwrap_or((include, ""));
+        let kind = Kind::Foreign {
+            scope: String::from_str(self.alloc, scope)?,
+            name: String::from_str(self.alloc, name)?,
+        };
+        let number = self.add(path)?;
+        self.set_kind(number, kind);
+        Ok(Some(number))
+    }
+
+    fn set_kind(&mut self, number: usize, kind: Kind) {
+        if let Some(rule) = self.library.rules.get_mut(number) {
+            rule.kind = kind;
         }
     }
 
-    fn leave_out_by(
-        &mut self,
-        rule: usize,
-        path: String,
-        error: Error,
-    ) -> Result<(), GrammarError> {
-        if matches!(error, Error::Memory) {
-            return Err(GrammarError::Memory);
+    /// Sets which rules are in the one with this number.
+    fn set_patterns(&mut self, number: usize, patterns: Vec<usize>) {
+        if let Some(rule) = self.library.rules.get_mut(number) {
+            rule.patterns = patterns;
         }
-        if !is_limit(&error) {
-            let fault = Fault::Pattern(error);
-            return Err(GrammarError::At { path, fault });
+    }
+
+    /// Sets the name of the rule with this number.
+    fn set_name(&mut self, number: usize, value: &Value) -> Result<(), AllocError> {
+        let name = self.name(value, "name")?;
+        let label = String::from_str(self.alloc, text(value, "name").unwrap_or(""))?;
+        if let Some(rule) = self.library.rules.get_mut(number) {
+            rule.name = name;
+            rule.label = label;
         }
-        let name = String::from_str(self.alloc, self.label(rule))?;
-        self.left_out.push(LeftOut {
-            rule,
-            path,
-            name,
-            at: 0,
-            error,
-        })?;
         Ok(())
     }
 
-    fn add_name(&mut self, name: &str) -> Result<usize, AllocError> {
-        let number = self.names.len();
-        self.names.push(String::from_str(self.alloc, name)?)?;
-        Ok(number)
-    }
-
-    /// The names in a text, with spaces between them.
-    fn names_in(&mut self, text: &str) -> Result<Vec<usize>, AllocError> {
-        let mut numbers = Vec::new(self.alloc);
-        for name in text.split_whitespace() {
-            let number = self.add_name(name)?;
-            numbers.push(number)?;
-        }
-        Ok(numbers)
-    }
-
-    /// The names that the member is; none if there is no such member.
-    fn names_of(&mut self, part: &Part<'_>, member: &str) -> Result<Vec<usize>, GrammarError> {
-        match part.member(self.alloc, member)? {
-            None => Ok(Vec::new(self.alloc)),
-            Some(part) => {
-                let text = part.text()?;
-                Ok(self.names_in(text)?)
-            }
-        }
-    }
-
-    /// Adds the pattern to the scanner, and returns the number of its tree.
-    fn add_pattern(&mut self, pattern: &str) -> Result<usize, Error> {
-        let tree = compile(self.alloc, pattern)?;
-        self.scanner.push(tree)?;
-        let number = self.trees;
-        self.trees = self.trees.saturating_add(1);
-        Ok(number)
-    }
-
-    /// The number of the tree of the pattern that this part is, and its path.
-    fn pattern(&mut self, part: Part<'_>) -> Result<(usize, String), GrammarError> {
-        let Some(pattern) = part.value.as_str() else {
-            return Err(part.wanted("a pattern"));
-        };
-        match self.add_pattern(pattern) {
-            Ok(number) => Ok((number, part.path)),
-            Err(error) => Err(part.fault(Fault::Pattern(error))),
-        }
-    }
-
-    /// Whether this pattern of an end can be read, whatever the groups took to which it refers.
-    fn check_end(&self, end: &str) -> Result<(), Error> {
-        let sample = Took::Sample.end(self.alloc, end)?;
-        check_sample(self.alloc, sample.as_str())
-    }
-
-    /// How a region ends by this pattern.
-    fn end_by(&mut self, end: &str) -> Result<End, Error> {
-        if !refers(end) {
-            return Ok(End::Tree(self.add_pattern(end)?));
-        }
-        self.check_end(end)?;
-        Ok(End::Refers(String::from_str(self.alloc, end)?))
-    }
-
-    /// How a region ends that goes on while this pattern has a match where a line begins.
-    fn end_by_while(&mut self, pattern: &str) -> Result<End, Error> {
-        self.check_end(pattern)?;
-        let end = end_of_while(self.alloc, pattern)?;
-        self.end_by(end.as_str())
-    }
-
-    /// How a region ends by this part, a `while` or an `end`, and its path.
-    fn end(&mut self, part: Part<'_>, is_while: bool) -> Result<(End, String), GrammarError> {
-        let Some(pattern) = part.value.as_str() else {
-            return Err(part.wanted("a pattern"));
-        };
-        let end = if is_while {
-            self.end_by_while(pattern)
-        } else {
-            self.end_by(pattern)
-        };
-        match end {
-            Ok(end) => Ok((end, part.path)),
-            Err(error) => Err(part.fault(Fault::Pattern(error))),
-        }
-    }
-
-    /// How a region ends, and its path; nothing where it has neither a `while` nor an `end`.
-    fn region_end(&mut self, part: &Part<'_>) -> Result<Option<(End, String)>, GrammarError> {
-        if let Some(end) = part.member(self.alloc, "while")? {
-            return Ok(Some(self.end(end, true)?));
-        }
-        match part.member(self.alloc, "end")? {
-            None => Ok(None),
-            Some(end) => Ok(Some(self.end(end, false)?)),
-        }
-    }
-
-    /// Whether the end is tried last, as never of a `while`.
-    fn is_end_last(&self, part: &Part<'_>) -> Result<bool, GrammarError> {
-        if part.value.get("while").is_some() {
-            return Ok(false);
-        }
-        part.flag(self.alloc, "applyEndPatternLast")
-    }
-
-    /// The names of one group, whose number is the name of this part.
-    fn group(&mut self, part: Part<'_>, number: &str) -> Result<GroupNames, GrammarError> {
-        let Ok(group) = number.parse::<usize>() else {
-            return Err(part.wanted("the number of a group"));
-        };
-        if part.value.get("patterns").is_some() {
-            return Err(part.wanted("a name, and no patterns,"));
-        }
-        let names = self.names_of(&part, "name")?;
-        Ok(GroupNames { group, names })
-    }
-
-    /// The names of groups that the member says, by the numbers of the groups.
-    fn captures_in(
+    /// What is said of a group in the rule with this number.
+    #[cycle(reading)]
+    fn capture(
         &mut self,
-        part: &Part<'_>,
+        rule: usize,
         member: &str,
-    ) -> Result<BTreeMap<usize, GroupNames>, GrammarError> {
-        let mut groups = BTreeMap::new(self.alloc);
-        let Some(part) = part.member(self.alloc, member)? else {
-            return Ok(groups);
+        key: &str,
+        value: &Value,
+        depth: usize,
+    ) -> Result<Option<Capture>, AllocError> {
+        let Ok(group) = key.parse::<usize>() else {
+            return Ok(None);
         };
-        let Some(object) = part.value.as_object() else {
-            return Err(part.wanted("an object of groups"));
-        };
-        for number in object.keys() {
-            if let Some(group) = part.member(self.alloc, number.as_str())? {
-                let names = self.group(group, number.as_str())?;
-                groups.insert(names.group, names)?;
-            }
+        let name = self.name(value, "name")?;
+        let mut inner = None;
+        if depth > 0 && value.get("patterns").is_some() {
+            let path = self.path(rule, member, key)?;
+            let number = self.add(path)?;
+            let patterns = self.patterns(number, value, depth - 1)?;
+            self.set_patterns(number, patterns);
+            inner = Some(number);
         }
-        Ok(groups)
+        Ok(Some(Capture {
+            group,
+            name,
+            rule: inner,
+        }))
     }
 
-    /// The names of groups that the member says, or `captures`, if there is no such member: the first groups first.
-    fn captures(&mut self, part: &Part<'_>, member: &str) -> Result<Vec<GroupNames>, GrammarError> {
-        let member = if part.value.get(member).is_some() {
-            member
-        } else {
-            "captures"
+    /// What is said of groups in the member, or in `captures`, if there is no such member: the first groups first.
+    #[cycle(reading)]
+    fn captures(
+        &mut self,
+        rule: usize,
+        value: &Value,
+        member: &str,
+        depth: usize,
+    ) -> Result<Vec<Capture>, AllocError> {
+        let (member, captures) = match value.get(member) {
+            Some(captures) => (member, Some(captures)),
+            None => ("captures", value.get("captures")),
         };
-        let groups = self.captures_in(part, member)?;
+        let mut groups = BTreeMap::new(self.alloc);
+        if let Some(Value::Object(members)) = captures {
+            for (key, value) in members {
+                if let Some(capture) = self.capture(rule, member, key.as_str(), value, depth)? {
+                    groups.insert(capture.group, capture)?;
+                }
+            }
+        }
         let mut list = Vec::new(self.alloc);
-        for (_, names) in groups {
-            list.push(names)?;
+        for (_, capture) in groups {
+            list.push(capture)?;
         }
         Ok(list)
     }
 
-    fn match_rule(&mut self, part: &Part<'_>, pattern: Part<'_>) -> Result<Rule, GrammarError> {
-        let (tree, path) = self.pattern(pattern)?;
-        Ok(Rule::Match(MatchRule {
-            path,
-            tree,
-            names: self.names_of(part, "name")?,
-            captures: self.captures(part, "captures")?,
-        }))
-    }
-
+    /// What the region with this number is.
     #[cycle(reading)]
     fn region(
         &mut self,
-        part: &Part<'_>,
-        begin: Part<'_>,
+        number: usize,
+        value: &Value,
+        begin: &str,
         depth: usize,
-    ) -> Result<Rule, GrammarError> {
-        let Some((end, end_path)) = self.region_end(part)? else {
-            return Err(begin.wanted("an end or a while beside it, as for every begin,"));
-        };
-        let (begin, begin_path) = self.pattern(begin)?;
-        Ok(Rule::Region(Region {
-            begin_path,
-            begin,
-            end_path,
-            end,
-            end_last: self.is_end_last(part)?,
-            names: self.names_of(part, "name")?,
-            content_names: self.names_of(part, "contentName")?,
-            begin_captures: self.captures(part, "beginCaptures")?,
-            end_captures: self.captures(part, "endCaptures")?,
-            patterns: self.patterns(part, depth)?,
-        }))
-    }
-
-    /// The rule that an `include` names.
-    fn include(&mut self, part: Part<'_>) -> Result<Rule, GrammarError> {
-        let Some(name) = part.value.as_str() else {
-            return Err(part.wanted("the name of a rule"));
-        };
-        if name == "$self" || name == "$base" {
-            return Ok(Rule::Itself);
-        }
-        match name.strip_prefix('#') {
-            None => Err(part.wanted("`#` and the name of a rule, or `$self`,")),
-            Some(name) => Ok(Rule::Named {
-                name: String::from_str(self.alloc, name)?,
-                path: part.path,
-            }),
-        }
-    }
-
-    /// Reads what a rule is.
-    #[cycle(reading)]
-    fn rule_in(&mut self, part: &Part<'_>, depth: usize) -> Result<Rule, GrammarError> {
-        if let Some(name) = part.member(self.alloc, "include")? {
-            self.include(name)
-        } else if let Some(pattern) = part.member(self.alloc, "match")? {
-            self.match_rule(part, pattern)
-        } else if let Some(begin) = part.member(self.alloc, "begin")? {
-            self.region(part, begin, depth)
+    ) -> Result<Region, AllocError> {
+        let is_while = text(value, "while").is_some();
+        let (end, captures) = if is_while {
+            ("while", "whileCaptures")
         } else {
-            Ok(Rule::List(self.patterns(part, depth)?))
+            ("end", "endCaptures")
+        };
+        let begin = self.patterns.number(begin, false)?;
+        let end = self.end(value, end)?;
+        let end_kind = match (is_while, flag(value, "applyEndPatternLast")) {
+            (true, _) => EndKind::While,
+            (false, true) => EndKind::Last,
+            (false, false) => EndKind::First,
+        };
+        let content_name = self.name(value, "contentName")?;
+        let begin_captures = self.captures(number, value, "beginCaptures", depth)?;
+        let end_captures = self.captures(number, value, captures, depth)?;
+        Ok(Region {
+            begin,
+            end,
+            end_kind,
+            content_name,
+            begin_captures,
+            end_captures,
+        })
+    }
+
+    /// Reads the rule with this number.
+    #[cycle(reading)]
+    fn rule_at(&mut self, number: usize, value: &Value, depth: usize) -> Result<(), AllocError> {
+        if depth == 0 || flag(value, "disabled") {
+            return Ok(());
+        }
+        let has_repository = self.repository(number, value, depth - 1)?;
+        self.set_name(number, value)?;
+        if let Some(found) = pattern(value, "match") {
+            let pattern = self.patterns.number(found, false)?;
+            let captures = self.captures(number, value, "captures", depth - 1)?;
+            self.set_kind(number, Kind::Match { pattern, captures });
+        } else {
+            let patterns = self.patterns(number, value, depth - 1)?;
+            self.set_patterns(number, patterns);
+            if let Some(begin) = pattern(value, "begin") {
+                let region = self.region(number, value, begin, depth - 1)?;
+                self.set_kind(number, Kind::Region(region));
+            }
+        }
+        if has_repository {
+            let _ = self.repositories.pop();
+        }
+        Ok(())
+    }
+
+    /// Reads a rule in the one with this number; returns the number of what it stands for.
+    #[cycle(reading)]
+    fn rule(
+        &mut self,
+        value: &Value,
+        path: String,
+        depth: usize,
+    ) -> Result<Option<usize>, AllocError> {
+        match text(value, "include") {
+            _ if flag(value, "disabled") => Ok(None),
+            Some(include) => self.include(include, path),
+            None => {
+                let number = self.add(path)?;
+                if depth > 0 {
+                    self.rule_at(number, value, depth - 1)?;
+                }
+                Ok(Some(number))
+            }
         }
     }
 
-    /// Reads a rule, and answers its number. If a pattern of it exceeds a limit, it stands for nothing.
+    /// Reads the rules in the one with this number.
     #[cycle(reading)]
-    fn rule(&mut self, part: &Part<'_>, depth: usize) -> Result<usize, GrammarError> {
-        let number = self.add_rule(part)?;
-        match self.rule_in(part, depth) {
-            Ok(rule) => self.set_rule(number, rule),
-            Err(error) => self.leave_out(number, error)?,
-        }
-        Ok(number)
-    }
-
-    /// Reads the patterns of a part, and answers their numbers; none if it has no patterns.
-    #[cycle(reading)]
-    fn patterns(&mut self, part: &Part<'_>, depth: usize) -> Result<Vec<usize>, GrammarError> {
+    fn patterns(
+        &mut self,
+        number: usize,
+        value: &Value,
+        depth: usize,
+    ) -> Result<Vec<usize>, AllocError> {
         let mut numbers = Vec::new(self.alloc);
-        let Some(part) = part.member(self.alloc, "patterns")? else {
+        if depth == 0 {
+            return Ok(numbers);
+        }
+        if let Some(include) = text(value, "include") {
+            let path = self.path(number, "include", "")?;
+            if let Some(found) = self.include(include, path)? {
+                numbers.push(found)?;
+            }
+        }
+        let Some(Value::Array(list)) = value.get("patterns") else {
             return Ok(numbers);
         };
-        let Some(list) = part.value.as_array() else {
-            return Err(part.wanted("a list of rules"));
-        };
-        if depth == 0 {
-            return Err(part.wanted("fewer rules in one another"));
-        }
         for (index, value) in list.iter().enumerate() {
-            let item = part.item(self.alloc, value, index)?;
-            let number = self.rule(&item, depth - 1)?;
-            numbers.push(number)?;
+            let key = format!(in self.alloc; "{index}")?;
+            let path = self.path(number, "patterns", key.as_str())?;
+            if let Some(found) = self.rule(value, path, depth - 1)? {
+                numbers.push(found)?;
+            }
         }
         Ok(numbers)
     }
 
-    /// Reads the rules of the repository, by their names.
-    fn repository(&mut self, part: &Part<'_>) -> Result<BTreeMap<String, usize>, GrammarError> {
-        let mut repository = BTreeMap::new(self.alloc);
-        let Some(part) = part.member(self.alloc, "repository")? else {
-            return Ok(repository);
+    /// Reads the repository of the rule with this number; returns whether it has one.
+    #[cycle(reading)]
+    fn repository(
+        &mut self,
+        number: usize,
+        value: &Value,
+        depth: usize,
+    ) -> Result<bool, AllocError> {
+        let Some(Value::Object(members)) = value.get("repository") else {
+            return Ok(false);
         };
-        let Some(object) = part.value.as_object() else {
-            return Err(part.wanted("an object of rules"));
-        };
-        for name in object.keys() {
-            if let Some(rule) = part.member(self.alloc, name.as_str())? {
-                let number = self.rule(&rule, MOST_DEPTH)?;
-                repository.insert(String::from_str(self.alloc, name.as_str())?, number)?;
+        let mut names = BTreeMap::new(self.alloc);
+        let mut numbers = Vec::new(self.alloc);
+        for (name, _) in members {
+            let path = self.path(number, "repository", name.as_str())?;
+            let number = self.add(path)?;
+            names.insert(String::from_str(self.alloc, name.as_str())?, number)?;
+            numbers.push(number)?;
+        }
+        self.repositories.push(names)?;
+        for ((_, value), number) in members.iter().zip(numbers.iter()) {
+            if depth > 0 {
+                self.rule_at(*number, value, depth - 1)?;
             }
         }
-        Ok(repository)
+        Ok(true)
     }
 
-    /// The number of the grammar's own name.
-    fn own_name(&mut self, part: &Part<'_>) -> Result<usize, GrammarError> {
-        match part.member(self.alloc, "scopeName")? {
-            None => Ok(self.add_name("text")?),
-            Some(name) => {
-                let text = name.text()?;
-                Ok(self.add_name(text)?)
+    /// Adds an injection for each alternative of a selector: rules in the one with this number.
+    fn inject(&mut self, selector: &str, rule: usize) -> Result<(), AllocError> {
+        for alternative in alternatives(self.alloc, selector)? {
+            let alternative = alternative.trim();
+            let (is_before, selector) = match alternative.strip_prefix("L:") {
+                Some(selector) => (true, selector),
+                None => (false, alternative.strip_prefix("R:").unwrap_or(alternative)),
+            };
+            let selector = String::from_str(self.alloc, selector)?;
+            self.library.injections.push(Injection {
+                selector,
+                is_before,
+                rule,
+            })?;
+        }
+        Ok(())
+    }
+
+    /// Reads the injections of the grammar, if it is the first, and those that it is itself.
+    fn injections(&mut self, value: &Value) -> Result<(), AllocError> {
+        if let Some(selector) = text(value, "injectionSelector") {
+            let root = self.root;
+            self.inject(selector, root)?;
+        }
+        let Some(Value::Object(members)) = value.get("injections") else {
+            return Ok(());
+        };
+        for (selector, value) in members {
+            if self.root == 0 {
+                let path = self.path(0, "injections", selector.as_str())?;
+                let number = self.add(path)?;
+                self.rule_at(number, value, MOST_DEPTH)?;
+                self.inject(selector.as_str(), number)?;
             }
         }
+        Ok(())
+    }
+
+    /// Reads the grammar.
+    fn grammar(&mut self, value: &Value) -> Result<(), AllocError> {
+        let path = if self.root == 0 { "" } else { self.scope };
+        let path = String::from_str(self.alloc, path)?;
+        let root = self.add(path)?;
+        let has_repository = self.repository(root, value, MOST_DEPTH)?;
+        let patterns = self.patterns(root, value, MOST_DEPTH)?;
+        self.set_patterns(root, patterns);
+        self.injections(value)?;
+        let repository = match self.repositories.pop() {
+            Some(repository) if has_repository => repository,
+            _ => BTreeMap::new(self.alloc),
+        };
+        let scope = String::from_str(self.alloc, self.scope)?;
+        let grammar = Grammar {
+            scope,
+            root,
+            repository,
+        };
+        self.library.grammars.push(grammar)?;
+        Ok(())
     }
 }
 
-/// The rules in a text, as a grammar, and the scanner of its patterns.
-pub(crate) fn read_grammar(
-    alloc: Global,
-    text: &str,
-) -> Result<(Grammar, TreeScanner), GrammarError> {
-    let value = match Value::from_str(alloc, text) {
+/// The object that a text in JSON is.
+fn object_of(alloc: Global, json: &str) -> Result<Value, GrammarError> {
+    let value = match Value::from_str(alloc, json) {
         Ok(value) => value,
         Err(error) if error.is_memory() => return Err(GrammarError::Memory),
         Err(error) => {
@@ -402,34 +417,35 @@ pub(crate) fn read_grammar(
     if value.as_object().is_none() {
         return Err(GrammarError::NoObject(kind_of(&value)));
     }
-    let part = Part {
-        value: &value,
-        path: String::new(alloc),
-    };
-    grammar_of(alloc, &part)
+    Ok(value)
 }
 
-fn grammar_of(alloc: Global, part: &Part<'_>) -> Result<(Grammar, TreeScanner), GrammarError> {
-    let mut reader = Reader::new(alloc);
-    let name = reader.own_name(part)?;
-    let patterns = reader.patterns(part, MOST_DEPTH)?;
-    let repository = reader.repository(part)?;
-    let rules = Rules {
+/// Reads a grammar, in JSON or as a property list in XML, into the library, under this name or else its own.
+pub(crate) fn read_grammar(
+    alloc: Global,
+    library: &mut Library,
+    patterns: &mut Patterns,
+    scopes: &mut Scopes,
+    scope: Option<&str>,
+    rules: &str,
+) -> Result<(), GrammarError> {
+    let value = if rules.trim_start().starts_with('<') {
+        let json = json_of(alloc, rules)?;
+        object_of(alloc, json.as_str())?
+    } else {
+        object_of(alloc, rules)?
+    };
+    let own = text(&value, "scopeName").unwrap_or("text");
+    let root = library.rules.len();
+    let mut reader = Reader {
         alloc,
-        rules: reader.rules,
-        repository,
+        library,
         patterns,
-    };
-    let root = rules.context(&rules.patterns)?;
-    let contexts = rules.contexts()?;
-    let grammar = Grammar {
-        rules: rules.rules,
-        labels: reader.labels,
-        left_out: reader.left_out,
-        contexts,
+        scopes,
+        scope: scope.unwrap_or(own),
         root,
-        names: reader.names,
-        name,
+        repositories: Vec::new(alloc),
     };
-    Ok((grammar, reader.scanner))
+    reader.grammar(&value)?;
+    Ok(())
 }

@@ -2,14 +2,11 @@
 
 ghost use Rattle.std.specs.Prelude.{◌≡◌, ◌++◌, ◌∷◌, ◌==◌, ◌&&◌, ◌||◌, [], ℕ, List, is_some, not, IfOk, OnOk, chars, encode_utf8_all, string_bytes};
 ghost use Rattle.fancy_highlight.specs.Ends as ends;
-ghost use Rattle.fancy_highlight.specs.Ends.{end_after, end_for, reference, taken};
+ghost use Rattle.fancy_highlight.specs.Ends.{end_after, end_for, reference, taken_by};
 
 use fancy_matches::found::Captures;
 use fancy_pattern::escape::escape;
 use std::alloc::{AllocError, Global};
-
-/// What replaces a reference while rules are read: as many bytes as the reference, so that faults keep their place.
-const SAMPLE: &str = "é";
 
 /// The group that a digit names.
 fn group_of(c: char) -> Option<usize>
@@ -48,104 +45,93 @@ pub(crate) fn refers(end: &str) -> bool
     found
 }
 
-/// The pattern of the end of a region with a `while`: a line begins at which that pattern has no match.
-pub(crate) fn end_of_while(alloc: Global, pattern: &str) -> Result<String, AllocError>
-    ensures { IfOk result (λ end. string_bytes end ≡ ends.end_of_while pattern.now) }
+/// What the group captured; nothing if it is not set.
+fn text_of<'t>(captures: &Captures<'t>, group: usize) -> &'t str
+    ensures { chars result.now ≡ taken_by captures.now group }
 {
-    let mut end = String::new(alloc);
-    end.push_str("^(?!(?:")?;
-    end.push_str(pattern)?;
-    end.push_str("))")?;
-    Ok(end)
+    match captures.get(group) {
+        Some(taken) => taken.as_str(),
+        None => "",
+    }
 }
 
-/// What the groups of a begin took.
-#[derive(Clone, Copy)]
-pub(crate) enum Took<'c, 't> {
-    /// Nothing is known yet.
-    Sample,
-    Groups(&'c Captures<'t>),
+/// Adds an escaped character of an end, or the text of the group that it names.
+fn push_escaped(
+    alloc: Global,
+    captures: &Captures<'_>,
+    pattern: &mut String,
+    c: char,
+) -> Result<(), AllocError>
+    ensures { OnOk result (string_bytes pattern.new ≡ string_bytes pattern.old
+        ++ encode_utf8_all (reference (taken_by captures.now) (ends.group_of c) c)) }
+{
+    match group_of(c) {
+        Some(group) => {
+            let text = escape(alloc, text_of(captures, group))?;
+            pattern.push_str(text.as_str())
+        }
+        None => {
+            pattern.push('\\')?;
+            pattern.push(c)
+        }
+    }
 }
 
-impl Took<'_, '_> {
-    /// What the group took; nothing where it is not set.
-    fn text(&self, group: usize) -> &str
-        ensures { chars result.now ≡ taken self.now group }
-    {
-        match self {
-            Took::Sample => SAMPLE,
-            Took::Groups(captures) => match captures.get(group) {
-                Some(taken) => taken.as_str(),
-                None => "",
-            },
-        }
+/// Adds the next character of an end, which a backslash may precede; returns whether it is a backslash that stands before
+/// the next one.
+fn push(
+    alloc: Global,
+    captures: &Captures<'_>,
+    pattern: &mut String,
+    is_escaped: bool,
+    c: char,
+) -> Result<bool, AllocError>
+    ensures { IfOk result (λ next. (rest : List ℕ)
+        → string_bytes pattern.new ++ encode_utf8_all (end_after (taken_by captures.now) next rest)
+        ≡ string_bytes pattern.old
+        ++ encode_utf8_all (end_after (taken_by captures.now) is_escaped (c ∷ rest))) }
+{
+    if is_escaped {
+        push_escaped(alloc, captures, pattern, c)?;
+        return Ok(false);
     }
+    if c == '\\' {
+        return Ok(true);
+    }
+    pattern.push(c)?;
+    Ok(false)
+}
 
-    /// Adds an escaped character of an end, or the text of the group that it names.
-    fn push_escaped(&self, alloc: Global, pattern: &mut String, c: char) -> Result<(), AllocError>
-        ensures { OnOk result (string_bytes pattern.new ≡ string_bytes pattern.old
-            ++ encode_utf8_all (reference (taken self.now) (ends.group_of c) c)) }
-    {
-        match group_of(c) {
-            Some(group) => {
-                let text = escape(alloc, self.text(group))?;
-                pattern.push_str(text.as_str())
-            }
-            None => {
-                pattern.push('\\')?;
-                pattern.push(c)
-            }
-        }
+/// Adds a backslash that stands before the end's end.
+fn push_last(
+    captures: &Captures<'_>,
+    pattern: &mut String,
+    is_escaped: bool,
+) -> Result<(), AllocError>
+    ensures { OnOk result (string_bytes pattern.new ≡ string_bytes pattern.old
+        ++ encode_utf8_all (end_after (taken_by captures.now) is_escaped [])) }
+{
+    if is_escaped {
+        pattern.push('\\')
+    } else {
+        Ok(())
     }
+}
 
-    /// Adds the next character of an end, which a backslash may precede; returns whether it is a backslash that
-    /// stands before the next one.
-    fn push(
-        &self,
-        alloc: Global,
-        pattern: &mut String,
-        is_escaped: bool,
-        c: char,
-    ) -> Result<bool, AllocError>
-        ensures { IfOk result (λ next. (rest : List ℕ)
-            → string_bytes pattern.new ++ encode_utf8_all (end_after (taken self.now) next rest)
-            ≡ string_bytes pattern.old
-            ++ encode_utf8_all (end_after (taken self.now) is_escaped (c ∷ rest))) }
-    {
-        if is_escaped {
-            self.push_escaped(alloc, pattern, c)?;
-            return Ok(false);
-        }
-        if c == '\\' {
-            return Ok(true);
-        }
-        pattern.push(c)?;
-        Ok(false)
+/// The pattern of an end, in which each reference is the text that the group captured, escaped.
+pub(crate) fn end_pattern(
+    alloc: Global,
+    captures: &Captures<'_>,
+    end: &str,
+) -> Result<String, AllocError>
+    ensures { IfOk result (λ pattern. string_bytes pattern
+        ≡ encode_utf8_all (end_for (taken_by captures.now) (chars end.now))) }
+{
+    let mut pattern = String::new(alloc);
+    let mut is_escaped = false;
+    for c in end.chars() {
+        is_escaped = push(alloc, captures, &mut pattern, is_escaped, c)?;
     }
-
-    /// Adds a backslash that stands before the end's end.
-    fn push_last(&self, pattern: &mut String, is_escaped: bool) -> Result<(), AllocError>
-        ensures { OnOk result (string_bytes pattern.new ≡ string_bytes pattern.old
-            ++ encode_utf8_all (end_after (taken self.now) is_escaped [])) }
-    {
-        if is_escaped {
-            pattern.push('\\')
-        } else {
-            Ok(())
-        }
-    }
-
-    /// The pattern of an end, in which each reference is the text that the group took, escaped.
-    pub(crate) fn end(&self, alloc: Global, end: &str) -> Result<String, AllocError>
-        ensures { IfOk result (λ pattern. string_bytes pattern
-            ≡ encode_utf8_all (end_for (taken self.now) (chars end.now))) }
-    {
-        let mut pattern = String::new(alloc);
-        let mut is_escaped = false;
-        for c in end.chars() {
-            is_escaped = self.push(alloc, &mut pattern, is_escaped, c)?;
-        }
-        self.push_last(&mut pattern, is_escaped)?;
-        Ok(pattern)
-    }
+    push_last(captures, &mut pattern, is_escaped)?;
+    Ok(pattern)
 }

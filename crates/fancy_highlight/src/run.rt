@@ -1,477 +1,366 @@
-//! A text from match to match.
+//! A line, or a part of it to which rules of a capture apply, from match to match.
 
-ghost use Rattle.std.specs.Prelude.{◌≡◌, ◌≤◌, ◌<◌, IfOk, IsFalse, IsTrue, OnOk, length, suc};
-ghost use Rattle.fancy_matches.specs.Matchers.{span_of};
-ghost use Rattle.fancy_highlight.specs.LeftOut.{AreReported};
-ghost use Rattle.fancy_highlight.specs.Tokens.{Covers};
-ghost use Rattle.fancy_scanner.specs.Scans.{text_of};
-
-use crate::frames::{EndPlace, Frame, Role};
-use crate::grammar::{Context, End, Grammar, GroupNames, MatchRule, Region, Rule};
-use crate::left_out::{Error, error_of};
-use crate::omitted::Omitted;
-use crate::patterns::compile;
-use crate::references::Took;
-use crate::tokens::Highlights;
-use crate::writer::Writer;
+use crate::contexts::Contexts;
+use crate::draft::Draft;
+use crate::frames::{EndPlace, Frame, Stack, Tried, tried_at};
+use crate::left_out::{Error, LeftOut};
+use crate::names::Name;
+use crate::references::end_pattern;
+use crate::regions::Regions;
+use crate::rules::{Capture, End, EndKind, Kind, Library, Region, Rule};
+use crate::scopes::Scopes;
+use crate::search::{Outcome, Search, Tree};
+use crate::translation::Anchors;
 use fancy_matches::found::Match;
-use fancy_scanner::scan_text::{ScanStep, TreeMatch, TreeScan};
 use std::alloc::{AllocError, Global};
-use std::collections::BTreeMap;
-use std::mem;
 
-/// Where a text is highlighted up to.
+/// The rules that are left out, and the reports of those that are so from some byte of this line on.
+#[derive(Drop)]
+pub(crate) struct Omitted {
+    pub(crate) rules: Vec<usize>,
+    pub(crate) reports: Vec<LeftOut>,
+}
+
+/// Where a line is gone through up to.
 #[derive(Drop)]
 pub(crate) struct Run<'g, 'r, 't> {
-    alloc: Global,
-    grammar: &'g Grammar,
-    scan: TreeScan<'r, 't>,
-    /// The trees of ends that refer back, by their patterns.
-    ends: &'r mut BTreeMap<String, usize>,
-    writer: Writer<'t>,
-    /// The innermost region that is open.
-    top: Frame<'g>,
-    /// The regions around it, the innermost last.
-    around: Vec<Frame<'g>>,
-    /// How many regions were entered by begins that took nothing where the last token ends.
-    entered_here: usize,
-    omitted: Omitted<'t>,
-    ghost same_text: { text_of scan ≡ writer.text.now },
-    ghost same_reports: { omitted.text.now ≡ writer.text.now },
+    pub(crate) alloc: Global,
+    pub(crate) library: &'g Library,
+    pub(crate) contexts: &'r mut Contexts,
+    pub(crate) scopes: &'r mut Scopes,
+    pub(crate) omitted: &'r mut Omitted,
+    pub(crate) search: Search<'r, 't>,
+    pub(crate) draft: Draft,
+    pub(crate) regions: Regions,
+    /// It is the first line of its text.
+    pub(crate) is_first: bool,
 }
 
-/// A match, and what it is of.
+/// What a run gives.
+#[derive(Drop)]
+pub(crate) struct Ran {
+    pub(crate) draft: Draft,
+    /// The regions that are open at the end.
+    pub(crate) stack: Stack,
+    /// How many ends that refer back are compiled.
+    pub(crate) made_count: usize,
+}
+
+/// A match, and the pattern that it is of.
 #[derive(Clone, Copy)]
 struct Found<'t> {
-    role: Role,
-    tree: usize,
+    tried: Tried,
+    tree: Tree,
     whole: Match<'t>,
-    /// The number of the tree of the end of the region that it begins, if it begins one.
-    end: Option<usize>,
 }
 
-/// What a search gives.
-#[derive(Clone, Copy)]
+/// What the search for the next match gives.
+#[derive(Drop)]
 enum Next<'t> {
+    Nothing,
     Found(Found<'t>),
-    /// There is no further match.
-    Nothing,
-    /// A rule was left out.
-    LeftOut,
-}
-
-/// What a match did to the regions that are open.
-#[derive(Clone, Copy, Debug, PartialEq, Eq)]
-enum Change {
-    Nothing,
-    Entered,
-    Left,
+    /// A pattern is refused.
+    Refused(Tried, Error),
 }
 
 impl<'g, 'r, 't> Run<'g, 'r, 't> {
-    ghost use Rattle.fancy_highlight.specs.Runs.{GoesOn, IsChanged, IsSame, depth, rule_count, steps_left};
-    ghost use Rattle.fancy_highlight.specs.Writers.{IsSamePlace, is_ahead};
-
-    pub(crate) fn new(
-        alloc: Global,
-        grammar: &'g Grammar,
-        scan: TreeScan<'r, 't>,
-        ends: &'r mut BTreeMap<String, usize>,
-    ) -> Result<Run<'g, 'r, 't>, AllocError>
-        ensures { IfOk result (λ run. run.writer.text.now ≡ text_of scan.entry) }
-    {
-        let rules = grammar.rules.len();
-        let omitted = Omitted::new(alloc, scan.text(), rules)?;
-        let mut writer = Writer::new(alloc, scan.text());
-        let scope = writer.enter_root(grammar.name)?;
-        Ok(Run {
-            alloc,
-            grammar,
-            scan,
-            ends,
-            writer,
-            top: Frame::root(rules, &grammar.root, scope),
-            around: Vec::new(alloc),
-            entered_here: 0,
-            omitted,
-        })
-    }
-
-    /// Leaves a rule out from here on, because of its pattern or that of its end.
-    fn leave_out(&mut self, rule: usize, is_end: bool, error: Error) -> Result<(), AllocError>
-        ensures { IsSame self.old self.new }
-    {
-        let at = self.writer.at();
-        let report = self.grammar.report(self.alloc, rule, is_end, at, error)?;
-        self.omitted.push(report)
-    }
-
-    /// What a match is of, whose tree is at this place of the order.
-    fn role(&self, index: usize) -> Option<Role> {
-        self.top.role(index)
-    }
-
-    /// The innermost region was entered at this place by a begin that took nothing.
-    fn is_top_entered_at(&self, at: usize) -> bool {
-        self.top.is_entered_at(at)
-    }
-
-    /// Searches from here on for the tree at this place of the order. If that exceeds a limit, the rule is left out.
-    fn look(&mut self, index: usize, tree: usize) -> Result<ScanStep<'t>, AllocError>
-        ensures { IsSame self.old self.new }
-    {
-        let Ok(step) = self.scan.find_among(&[tree], self.writer.at()) else {
-            return Err(AllocError);
-        };
-        match (step.stopped, self.role(index)) {
-            (Some(stopped), Some(Role::End)) => {
-                self.leave_out(self.top.rule, true, error_of(stopped.limit))?;
-            }
-            (Some(stopped), Some(Role::Rule(rule))) => {
-                self.leave_out(rule, false, error_of(stopped.limit))?;
-            }
-            _ => {}
+    /// The anchors that match where the last token ends.
+    fn anchors(&self) -> Anchors {
+        let at = self.draft.at;
+        Anchors {
+            start: self.is_first && at == 0,
+            search: self.regions.anchor == Some(at),
         }
-        Ok(step)
+    }
+
+    /// Leaves the rule of a pattern out from here on.
+    fn leave_out(&mut self, tried: Tried, error: Error) -> Result<(), AllocError> {
+        let report = self
+            .library
+            .report(self.alloc, tried.rule, tried.is_end, self.draft.at, error)?;
+        self.omitted.reports.push(report)?;
+        self.omitted.rules.push(tried.rule)?;
+        Ok(())
     }
 
     /// Closes the innermost regions whose rules are left out.
-    fn close(&mut self)
-        ensures { IsSame self.old self.new }
-    {
-        'regions: while self.omitted.has(self.top.rule) {
-            let Some(frame) = self.around.pop() else {
+    fn close_omitted(&mut self) {
+        for _ in 0..self.regions.stack.frames.len() {
+            let rule = self.regions.stack.top().rule;
+            if !self.omitted.rules.contains(&rule) {
                 return;
-            };
-            self.top = frame;
+            }
+            self.regions.close();
         }
     }
 
-    /// What a match is of, whose tree is in this order.
-    fn next_of(
-        &mut self,
-        order: &[usize],
-        found: Option<TreeMatch<'t>>,
-    ) -> Result<Next<'t>, AllocError>
-        ensures { IsSame self.old self.new }
-    {
-        let Some(found) = found else {
+    /// The first match of the end and the rules that are in force; of several that begin there, that of the first one.
+    fn find_next(&mut self) -> Result<Next<'t>, AllocError> {
+        let (at, anchors, top) = (self.draft.at, self.anchors(), self.regions.stack.top());
+        let context = self
+            .contexts
+            .of(self.library, self.scopes, top.rule, top.inner)?;
+        let Some(context) = context else {
             return Ok(Next::Nothing);
         };
-        let (Some(role), Some(tree)) = (self.role(found.index), order.get(found.index)) else {
-            return Ok(Next::Nothing);
+        let place = match top.end {
+            EndPlace::Last(_) => context.last,
+            _ => context.first,
         };
-        let end = match role {
-            Role::End => None,
-            Role::Rule(rule) => {
-                let end = self.end_of(rule, *tree)?;
-                if self.omitted.has(rule) {
-                    return Ok(Next::LeftOut);
-                }
-                end
+        let mut first: Option<Found<'t>> = None;
+        for index in 0..=context.patterns.len() {
+            let Some(tried) = tried_at(top.end(), place, &context.patterns, index) else {
+                break;
+            };
+            if self.omitted.rules.contains(&tried.rule) {
+                continue;
             }
+            match self.search.find(tried.pattern, anchors, at)? {
+                Outcome::Nothing => {}
+                Outcome::Refused(error) => return Ok(Next::Refused(tried, error)),
+                Outcome::Found { tree, whole } => {
+                    if first.is_none_or(|found| whole.start() < found.whole.start()) {
+                        first = Some(Found { tried, tree, whole });
+                    }
+                    if whole.start() == at {
+                        break;
+                    }
+                }
+            }
+        }
+        Ok(match first {
+            Some(found) => Next::Found(found),
+            None => Next::Nothing,
+        })
+    }
+
+    /// The number of the pattern of a region's end, for a match of its begin.
+    fn end_number(&mut self, end: &End, tree: Tree) -> Result<Option<usize>, AllocError> {
+        match (end, self.search.captures(tree)) {
+            (End::Never, _) => Ok(None),
+            (End::Pattern(number), _) => Ok(Some(*number)),
+            (End::Refers(_), None) => Ok(None),
+            (End::Refers(end), Some(captures)) => {
+                let pattern = end_pattern(self.alloc, captures, end.as_str())?;
+                let number = self.search.patterns.number(pattern.as_str(), true)?;
+                Ok(Some(number))
+            }
+        }
+    }
+
+    /// How the region ends that a match opens, if it opens one; an error, if its end is refused.
+    fn end_place(&mut self, found: Found<'t>) -> Result<Result<EndPlace, Error>, AllocError> {
+        let library = self.library;
+        let Some(region) = library.region(found.tried.rule) else {
+            return Ok(Ok(EndPlace::Never));
         };
-        Ok(Next::Found(Found {
-            role,
-            tree: *tree,
-            whole: found.whole,
-            end,
+        let Some(number) = self.end_number(&region.end, found.tree)? else {
+            return Ok(Ok(EndPlace::Never));
+        };
+        if let Some(error) = self.search.check(number)? {
+            return Ok(Err(error));
+        }
+        Ok(Ok(match region.end_kind {
+            EndKind::First => EndPlace::First(number),
+            EndKind::Last => EndPlace::Last(number),
+            EndKind::While => EndPlace::While(number),
         }))
     }
 
-    /// The next match of the end and the rules that are in force, or else the rules that are left out there. No tree is
-    /// searched for twice.
-    fn find_next(&mut self) -> Result<Next<'t>, AllocError>
-        ensures { IsSame self.old self.new }
-    {
-        let order = self.top.order(self.alloc, &self.omitted)?;
-        let mut first: Option<TreeMatch<'t>> = None;
-        let mut is_left_out = false;
-        for (index, tree) in order.iter().enumerate() {
-            let step = self.look(index, *tree)?;
-            is_left_out = is_left_out || step.stopped.is_some();
-            first = match (step.found, first) {
-                (Some(found), Some(one)) if one.whole.start() <= found.whole.start() => Some(one),
-                (Some(found), _) => Some(TreeMatch { index, ..found }),
-                (None, one) => one,
-            };
-        }
-        if is_left_out {
-            return Ok(Next::LeftOut);
-        }
-        self.next_of(&order, first)
-    }
-
-    /// The next match: of the end and the rules that are in force the one that begins first, and of several that begin
-    /// there the one that is tried first. A rule that exceeds a limit there is left out, and so is its region if it is open.
-    fn find(&mut self) -> Result<Option<Found<'t>>, AllocError>
-        ensures { IsSame self.old self.new }
-    {
+    /// The next match, and how the region ends that it opens. Rules whose patterns are refused, or exceed a limit there, are
+    /// left out, and so are their regions if they are open.
+    fn find(&mut self) -> Result<Option<(Found<'t>, EndPlace)>, AllocError> {
         // Each iteration but the last leaves out one rule at least.
-        for _ in 0..=self.grammar.rules.len() {
-            self.close();
-            match self.find_next()? {
-                Next::Found(found) => return Ok(Some(found)),
+        for _ in 0..=self.library.rules.len() {
+            self.close_omitted();
+            let (tried, error) = match self.find_next()? {
                 Next::Nothing => return Ok(None),
-                Next::LeftOut => {}
-            }
+                Next::Refused(tried, error) => (tried, error),
+                Next::Found(found) if found.tried.is_end => {
+                    return Ok(Some((found, EndPlace::Never)));
+                }
+                Next::Found(found) => match self.end_place(found)? {
+                    Ok(end) => return Ok(Some((found, end))),
+                    Err(error) => {
+                        let is_end = true;
+                        (
+                            Tried {
+                                is_end,
+                                ..found.tried
+                            },
+                            error,
+                        )
+                    }
+                },
+            };
+            self.leave_out(tried, error)?;
         }
         Ok(None)
     }
 
-    /// The region is open already, entered at this place by a begin that took nothing.
-    fn is_entered_at(&self, begin: usize, at: usize) -> bool {
-        if !self.top.is_entered_at(at) {
-            return false;
+    /// Adds the tokens of a match in this scope.
+    fn write(&mut self, tree: Tree, groups: &[Capture], scope: usize) -> Result<(), AllocError> {
+        if let Some(captures) = self.search.captures(tree) {
+            self.draft
+                .write_match(self.scopes, captures, groups, scope)?;
         }
-        if self.top.begins_with(begin) {
-            return true;
-        }
-        for frame in self.around.iter().rev() {
-            if !frame.is_entered_at(at) {
-                return false;
-            }
-            if frame.begins_with(begin) {
-                return true;
-            }
-        }
-        false
-    }
-
-    /// The number of the tree of an end that refers back, by its pattern.
-    fn tree_of_end(&mut self, pattern: &str) -> Result<usize, Error>
-        ensures { IsSame self.old self.new }
-    {
-        if let Some(tree) = self.ends.get(pattern) {
-            return Ok(*tree);
-        }
-        let tree = compile(self.alloc, pattern)?;
-        let number = self.scan.tree_count();
-        self.scan.push(tree)?;
-        self.ends
-            .insert(String::from_str(self.alloc, pattern)?, number)?;
-        Ok(number)
-    }
-
-    /// The pattern of the region's end for what its begin took, if it refers back.
-    fn end_pattern(&self, region: &Region, tree: usize) -> Result<String, AllocError> {
-        match (&region.end, self.scan.captures(tree)) {
-            (End::Refers(end), Some(captures)) => Took::Groups(captures).end(
-                self.alloc,
-                end.as_str(),
-            ),
-            _ => Ok(String::new(self.alloc)),
-        }
-    }
-
-    /// The number of the tree of the region's end that the rule with this number begins by its tree, if it begins one. If
-    /// the end is no pattern for what the begin matched, the rule is left out.
-    fn end_of(&mut self, rule: usize, tree: usize) -> Result<Option<usize>, AllocError>
-        ensures { IsSame self.old self.new }
-    {
-        let grammar = self.grammar;
-        let Some(Rule::Region(region)) = grammar.rules.get(rule) else {
-            return Ok(None);
-        };
-        if let End::Tree(end) = &region.end {
-            return Ok(Some(*end));
-        }
-        let pattern = self.end_pattern(region, tree)?;
-        match self.tree_of_end(pattern.as_str()) {
-            Ok(end) => Ok(Some(end)),
-            Err(Error::Memory) => Err(AllocError),
-            Err(error) => {
-                self.leave_out(rule, true, error)?;
-                Ok(None)
-            }
-        }
-    }
-
-    /// Opens a region, in these scopes.
-    fn enter(
-        &mut self,
-        rule: usize,
-        region: &'g Region,
-        context: &'g Context,
-        end: usize,
-        entered: Option<usize>,
-        outer: usize,
-    ) -> Result<(), AllocError>
-        ensures goes_on { GoesOn self.old self.new }
-        ensures same { IsSamePlace self.old.writer self.new.writer }
-        ensures entered { self.new.entered_here ≡ self.old.entered_here }
-        ensures deeper { OnOk result (depth self.new ≡ suc (depth self.old)) }
-    {
-        let inner = self.writer.enter(outer, &region.content_names)?;
-        let frame = Frame {
-            rule,
-            region: Some(region),
-            context,
-            end: if region.end_last {
-                EndPlace::Last(end)
-            } else {
-                EndPlace::First(end)
-            },
-            entered,
-            outer,
-            inner,
-        };
-        self.around.push(mem::replace(&mut self.top, frame))?;
         Ok(())
     }
 
-    /// Writes a match of the tree with this number, with its groups, in this scope.
-    fn write(
-        &mut self,
-        tree: usize,
-        whole: Match<'t>,
-        names: &[GroupNames],
-        scope: usize,
-    ) -> Result<(), AllocError>
-        ensures goes_on { GoesOn self.old self.new }
-        ensures entered { self.new.entered_here ≡ self.old.entered_here }
-        ensures depth { depth self.new ≡ depth self.old }
-        ensures ahead { OnOk result (IsTrue (is_ahead self.old.writer (span_of whole.entry).1)
-            → self.old.writer.at < self.new.writer.at) }
-    {
-        if let Some(captures) = self.scan.captures(tree) {
-            self.writer.write_groups(captures, names, scope)?;
+    /// The scope of a rule's name within another one, for a match.
+    fn enter(&mut self, outer: usize, name: &Name, tree: Tree) -> Result<usize, AllocError> {
+        match self.search.captures(tree) {
+            Some(captures) => self.scopes.enter(outer, name, captures),
+            None => Ok(outer),
         }
-        self.writer.write_to(whole.end(), scope)
     }
 
-    /// The region may not be entered where its begin took nothing: it is open there already, or there are as many such
-    /// ones as there are rules.
-    fn is_refused(&self, region: &Region, at: usize) -> bool
-        ensures { IsFalse result → self.now.entered_here < rule_count self.now }
-    {
-        self.entered_here >= self.grammar.rules.len() || self.is_entered_at(region.begin, at)
-    }
-
-    /// Writes a begin, and opens its region, unless it is empty and is open there already.
+    /// Opens a region by a match that was searched for from a byte on; returns whether the line goes on.
     fn begin(
         &mut self,
-        rule: usize,
-        region: &'g Region,
-        context: &'g Context,
-        end: usize,
-        whole: Match<'t>,
-    ) -> Result<Change, AllocError>
-        ensures goes_on { GoesOn self.old self.new }
-        ensures changed { IfOk result (λ change. IsChanged change self.old self.new) }
-    {
-        let at = self.writer.at();
-        let is_ahead = self.writer.is_ahead(whole.end());
-        if !is_ahead && self.is_refused(region, at) {
-            return Ok(Change::Nothing);
+        rule: &Rule,
+        region: &Region,
+        found: Found<'t>,
+        place: EndPlace,
+        from: usize,
+    ) -> Result<bool, AllocError> {
+        let Found { tried, tree, whole } = found;
+        let around = self.regions.stack.top().inner;
+        let outer = self.enter(around, &rule.name, tree)?;
+        let inner = self.enter(outer, &region.content_name, tree)?;
+        self.write(tree, &region.begin_captures, outer)?;
+        let end = whole.end();
+        if end <= from && self.regions.is_open_from(tried.rule, from) {
+            return Ok(false);
         }
-        let outer = self.writer.enter(self.top.inner, &region.names)?;
-        self.write(region.begin, whole, &region.begin_captures, outer)?;
-        let entered = if is_ahead { None } else { Some(at) };
-        self.enter(rule, region, context, end, entered, outer)?;
-        if !is_ahead {
-            self.entered_here += 1;
-        }
-        Ok(Change::Entered)
+        let frame = Frame {
+            rule: tried.rule,
+            end: place,
+            is_at_line_end: end == self.search.text().len(),
+            outer,
+            inner,
+        };
+        self.regions.open(frame, from, end)?;
+        Ok(true)
     }
 
-    /// Writes an end, and closes its region; but not where both its begin and its end take nothing.
-    fn end(&mut self, tree: usize, whole: Match<'t>) -> Result<Change, AllocError>
-        ensures goes_on { GoesOn self.old self.new }
-        ensures changed { IfOk result (λ change. IsChanged change self.old self.new) }
-    {
-        let Some(region) = self.top.region else {
-            return Ok(Change::Nothing);
-        };
-        if self.is_top_entered_at(whole.end()) {
-            return Ok(Change::Nothing);
+    /// Closes the innermost region by a match; returns whether the line goes on.
+    fn end(&mut self, region: &Region, found: Found<'t>, from: usize) -> Result<bool, AllocError> {
+        let outer = self.regions.stack.top().outer;
+        self.write(found.tree, &region.end_captures, outer)?;
+        if found.whole.end() <= from && self.regions.is_opened_from(from) {
+            return Ok(false);
         }
-        self.write(tree, whole, &region.end_captures, self.top.outer)?;
-        match self.around.pop() {
-            None => Ok(Change::Nothing),
-            Some(frame) => {
-                self.top = frame;
-                Ok(Change::Left)
+        self.regions.close();
+        Ok(true)
+    }
+
+    /// Goes on by the next match; returns whether the line goes on after it.
+    fn step(&mut self) -> Result<bool, AllocError> {
+        let from = self.draft.at;
+        let Some((found, place)) = self.find()? else {
+            return Ok(false);
+        };
+        let Found { tried, tree, whole } = found;
+        let inner = self.regions.stack.top().inner;
+        self.draft.write_to(whole.start(), inner)?;
+        let library = self.library;
+        let Some(rule) = library.rules.get(tried.rule) else {
+            return Ok(false);
+        };
+        match &rule.kind {
+            Kind::Region(region) if tried.is_end => self.end(region, found, from),
+            Kind::Region(region) => self.begin(rule, region, found, place, from),
+            Kind::Match { captures, .. } => {
+                let scope = self.enter(inner, &rule.name, tree)?;
+                self.write(tree, captures, scope)?;
+                Ok(from < whole.end())
+            }
+            Kind::List | Kind::Foreign { .. } => Ok(false),
+        }
+    }
+
+    /// Whether a region with a `while` goes on in this line.
+    fn goes_on(&mut self, frame: Frame) -> Result<bool, AllocError> {
+        let EndPlace::While(pattern) = frame.end else {
+            return Ok(true);
+        };
+        let library = self.library;
+        let Some(region) = library.region(frame.rule) else {
+            return Ok(true);
+        };
+        let (anchors, at) = (self.anchors(), self.draft.at);
+        match self.search.find(pattern, anchors, at)? {
+            Outcome::Nothing => Ok(false),
+            Outcome::Refused(error) => {
+                let tried = Tried {
+                    rule: frame.rule,
+                    pattern,
+                    is_end: true,
+                };
+                self.leave_out(tried, error)?;
+                Ok(false)
+            }
+            Outcome::Found { tree, whole } => {
+                self.draft.write_to(whole.start(), frame.inner)?;
+                self.write(tree, &region.end_captures, frame.inner)?;
+                self.regions.anchor = Some(whole.end());
+                Ok(true)
             }
         }
     }
 
-    /// Writes a match of a rule.
-    fn matched(&mut self, rule: &MatchRule, whole: Match<'t>) -> Result<Change, AllocError>
-        ensures goes_on { GoesOn self.old self.new }
-        ensures changed { IfOk result (λ change. IsChanged change self.old self.new) }
-    {
-        let scope = self.writer.enter(self.top.inner, &rule.names)?;
-        self.write(rule.tree, whole, &rule.captures, scope)?;
-        Ok(Change::Nothing)
-    }
-
-    /// Writes a match, and opens or closes a region by it.
-    fn take(&mut self, found: Found<'t>) -> Result<Change, AllocError>
-        ensures goes_on { GoesOn self.old self.new }
-        ensures changed { IfOk result (λ change. IsChanged change self.old self.new) }
-    {
-        let grammar = self.grammar;
-        match found.role {
-            Role::End => self.end(found.tree, found.whole),
-            Role::Rule(number) => match (
-                grammar.rules.get(number),
-                grammar.contexts.get(number),
-                found.end,
-            ) {
-                (Some(Rule::Match(rule)), _, _) => self.matched(rule, found.whole),
-                (Some(Rule::Region(region)), Some(context), Some(end)) => {
-                    self.begin(number, region, context, end, found.whole)
-                }
-                _ => Ok(Change::Nothing),
-            },
+    /// Begins a line: closes the first region, from the outermost in, whose `while` has no match, and all regions in it.
+    fn begin_line(&mut self) -> Result<(), AllocError> {
+        if self.regions.stack.top().is_at_line_end {
+            self.regions.anchor = Some(0);
         }
-    }
-
-    /// Goes on after the next match, or by one character if it is empty and neither opens nor closes a region.
-    fn step(&mut self) -> Result<(), AllocError>
-        requires { self.old.writer.at < length self.old.writer.text.now }
-        ensures grammar { self.new.grammar.now ≡ self.old.grammar.now }
-        ensures within { self.new.writer.text.now ≡ self.old.writer.text.now }
-        ensures fewer { OnOk result (steps_left self.new < steps_left self.old) }
-    {
-        let before = self.writer.at();
-        let Some(found) = self.find()? else {
-            self.writer.write_rest(self.top.inner)?;
-            return Ok(());
-        };
-        self.writer.write_to(found.whole.start(), self.top.inner)?;
-        let change = self.take(found)?;
-        if before < self.writer.at() {
-            self.entered_here = 0;
-            return Ok(());
-        }
-        match change {
-            Change::Nothing => {
-                self.writer.write_character(self.top.inner)?;
-                self.entered_here = 0;
-                Ok(())
+        for index in 0..self.regions.stack.whiles.len() {
+            let Some(depth) = self.regions.stack.whiles.get(index).copied() else {
+                break;
+            };
+            let Some(frame) = self.regions.stack.frames.get(depth).copied() else {
+                break;
+            };
+            if !self.goes_on(frame)? {
+                self.regions.stack.truncate(depth);
+                break;
             }
-            Change::Entered => Ok(()),
-            Change::Left => Ok(()),
         }
+        Ok(())
     }
 
-    /// Goes on to the end of the text.
-    pub(crate) fn finish(mut self) -> Result<Highlights, AllocError>
-        ensures covers { IfOk result (λ h. Covers self.entry.writer.text.now h.tokens.items) }
-        ensures reported { IfOk result (λ h.
-            AreReported self.entry.writer.text.now h.left_out.items) }
-    {
-        let length = self.scan.text().len();
-        'steps: while self.writer.at() < length {
-            self.step()?;
+    /// Goes on to the end of the line.
+    fn finish(&mut self) -> Result<(), AllocError> {
+        // At each byte each rule opens one region at most, and each region that is open is closed.
+        let rules = self.library.rules.len().saturating_add(1);
+        let places = self.search.text().len().saturating_add(2);
+        let opened = rules.saturating_mul(places).saturating_mul(2);
+        for _ in 0..opened.saturating_add(self.regions.stack.frames.len()) {
+            if !self.step()? {
+                break;
+            }
         }
-        let (tokens, scopes) = self.writer.into_parts();
-        Ok(Highlights {
-            tokens,
-            scopes,
-            left_out: self.omitted.into_reports(),
-        })
+        let (end, inner) = (self.search.text().len(), self.regions.stack.top().inner);
+        self.draft.write_to(end, inner)
+    }
+
+    /// Goes through the line, or through a part of it.
+    pub(crate) fn ran(mut self, is_line: bool) -> Result<Ran, AllocError> {
+        if is_line {
+            self.begin_line()?;
+        }
+        self.finish()?;
+        Ok(self.into_ran())
+    }
+
+    /// The tokens and regions.
+    fn into_ran(self) -> Ran {
+        let made_count = self.search.made.tree_count();
+        Ran {
+            draft: self.draft,
+            stack: self.regions.stack,
+            made_count,
+        }
     }
 }

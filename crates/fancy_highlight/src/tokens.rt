@@ -1,7 +1,7 @@
-//! The tokens of a text.
+//! The tokens of a text or of a line.
 
 use crate::left_out::LeftOut;
-use crate::scopes::Scopes;
+use crate::state::State;
 
 /// A part of a text, which begins and ends between characters.
 #[derive(Clone, Copy, Debug, PartialEq, Eq)]
@@ -10,7 +10,7 @@ pub struct Token {
     pub start: usize,
     /// The byte past its last.
     pub end: usize,
-    /// Which of the text's scopes it is in.
+    /// The number of its scope ([`Scopes`](crate::scopes::Scopes)).
     pub scope: usize,
 }
 
@@ -18,7 +18,16 @@ pub struct Token {
 #[derive(Drop)]
 pub struct Highlights {
     pub tokens: Vec<Token>,
-    pub scopes: Scopes,
-    /// The rules that were left out from some place on, in the order of these places, each once.
+    /// The rules that are left out from some place of the text on, in the order of these places, each once.
     pub left_out: Vec<LeftOut>,
+}
+
+/// The tokens of a line, which cover it, and the state after it.
+#[derive(Drop)]
+pub struct LineTokens {
+    pub tokens: Vec<Token>,
+    /// The rules that are left out from some place of the line on, each once.
+    pub left_out: Vec<LeftOut>,
+    /// The state in which the next line begins.
+    pub state: State,
 }

@@ -1,8 +1,6 @@
-//! Parts of rules in JSON, each with its path.
+//! Members of rules in JSON. What has another type than it should counts as absent.
 
-use crate::error::{Fault, GrammarError};
 use serde_json::Value;
-use std::alloc::{AllocError, Global};
 
 /// What a value of JSON is.
 pub(crate) fn kind_of(value: &Value) -> &'static str {
@@ -16,77 +14,25 @@ pub(crate) fn kind_of(value: &Value) -> &'static str {
     }
 }
 
-/// A part of the rules.
-#[derive(Drop)]
-pub(crate) struct Part<'v> {
-    pub(crate) value: &'v Value,
-    /// The path of the part, as a JSON pointer.
-    pub(crate) path: String,
+/// The text that the member is.
+pub(crate) fn text<'v>(value: &'v Value, member: &str) -> Option<&'v str> {
+    value.get(member)?.as_str()
 }
 
-impl<'v> Part<'v> {
-    /// The member of this name, if there is one.
-    pub(crate) fn member(&self, alloc: Global, name: &str) -> Result<Option<Part<'v>>, AllocError> {
-        match self.value.get(name) {
-            None => Ok(None),
-            Some(value) => {
-                let path = self.path.as_str();
-                let path = format!(in alloc; "{path}/{name}")?;
-                Ok(Some(Part { value, path }))
-            }
-        }
+/// The text that the member is, if it is not empty.
+pub(crate) fn pattern<'v>(value: &'v Value, member: &str) -> Option<&'v str> {
+    match text(value, member) {
+        Some("") => None,
+        text => text,
     }
+}
 
-    /// The item at this place of a list.
-    pub(crate) fn item(
-        &self,
-        alloc: Global,
-        value: &'v Value,
-        index: usize,
-    ) -> Result<Part<'v>, AllocError> {
-        let path = self.path.as_str();
-        let path = format!(in alloc; "{path}/{index}")?;
-        Ok(Part { value, path })
-    }
-
-    /// Something else is wrong with the part.
-    pub(crate) fn fault(self, fault: Fault) -> GrammarError {
-        GrammarError::At {
-            path: self.path,
-            fault,
-        }
-    }
-
-    pub(crate) fn wanted(self, wanted: &'static str) -> GrammarError {
-        self.fault(Fault::Wanted(wanted))
-    }
-
-    /// The `name` of the rule that it is; empty if it has none.
-    pub(crate) fn label(&self, alloc: Global) -> Result<String, AllocError> {
-        let name = match self.value.get("name") {
-            Some(name) => name.as_str(),
-            None => None,
-        };
-        String::from_str(alloc, name.unwrap_or(""))
-    }
-
-    /// The text that it is.
-    pub(crate) fn text(self) -> Result<&'v str, GrammarError> {
-        match self.value.as_str() {
-            Some(text) => Ok(text),
-            None => Err(self.wanted("a text")),
-        }
-    }
-
-    /// The truth value that the member of this name is: no, if there is none; a 1 is a yes, as older grammars have it.
-    pub(crate) fn flag(&self, alloc: Global, name: &str) -> Result<bool, GrammarError> {
-        let Some(part) = self.member(alloc, name)? else {
-            return Ok(false);
-        };
-        match (part.value.as_bool(), part.value.as_u64()) {
-            (Some(yes), _) => Ok(yes),
-            (None, Some(number)) => Ok(number != 0),
-            (None, None) => Err(part.wanted("true or false")),
-        }
+/// Whether the member is true, a number but 0, or a text that says so.
+pub(crate) fn flag(value: &Value, member: &str) -> bool {
+    match value.get(member) {
+        Some(Value::Bool(yes)) => *yes,
+        Some(Value::String(text)) => matches!(text.as_str(), "1" | "true" | "yes"),
+        Some(Value::Number(number)) => number.as_u64() != Some(0),
+        _ => false,
     }
 }

@@ -17,15 +17,15 @@ use Rattle.fancy_literals.specs.TakesByte.{BeginAmong, EachTakesByte, Includes, 
 
 -- ---- with which byte a character begins
 
-record First (c : ℕ) : Type 0 where
-  byte : ℕ
-  rest : List ℕ
-  is : encode_utf8 c ≡ byte ∷ rest
-  below : byte < 256
-  ascii : byte < 128 → c ≡ byte
-  beyond : 128 ≤ byte → 128 ≤ c
+pub record First (c : ℕ) : Type 0 where
+  pub byte : ℕ
+  pub rest : List ℕ
+  pub is : encode_utf8 c ≡ byte ∷ rest
+  pub below : byte < 256
+  pub ascii : byte < 128 → c ≡ byte
+  pub beyond : 128 ≤ byte → 128 ≤ c
 
-first_byte : (c : ℕ) → IsScalar c → First c
+pub first_byte : (c : ℕ) → IsScalar c → First c
 first_byte c scalar =
     let range = InScalarRange-of_IsScalar c scalar in
     elim (cases_lt c 0x80) [

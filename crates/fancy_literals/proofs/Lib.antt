@@ -2,6 +2,8 @@ pub mod ByteLaw
 pub mod ByteLaws
 pub mod MissingLaw
 pub mod NoAnswer
+pub mod OpenLaws
 pub mod Onward
 pub mod RequiredLaw
+pub mod StartLaws
 pub mod TakenLaws

@@ -1,6 +1,7 @@
 //! Sets of bytes, and whether a text has one of them.
 
-ghost use Rattle.std.specs.Prelude.{◌≡◌, ◌⊎◌, ℕ, true, IsTrue};
+ghost use Rattle.std.specs.Prelude.{◌≡◌, ◌⊎◌, ℕ, true, IsTrue, MatchOption, length};
+ghost use Rattle.memchr.specs.Find.{NoneBefore, Passes};
 ghost use Rattle.fancy_literals.specs.ByteSets.{AreAmong, HasNone, is_in, is_one_of};
 
 use memchr::{memchr, memchr2, memchr3};
@@ -37,6 +38,22 @@ impl ByteSet {
     /// Whether it has at most three bytes, so that texts are searched for them by vectors.
     pub fn is_few(&self) -> bool {
         !matches!(self.few, Few::Many)
+    }
+
+    /// The first place of the text before which none of its bytes is, if one may be in the text. It takes time in the length
+    /// of the text.
+    pub fn find(&self, text: &[u8]) -> Option<usize>
+        ensures { MatchOption result
+            (HasNone (is_in self.now.bytes) text.now)
+            (λ at. NoneBefore (Passes (is_in self.now.bytes) text.now) 0 (length text.now) at) }
+    {
+        match self.few {
+            Few::Nothing => None,
+            Few::One(a) => memchr(a, text),
+            Few::Two(a, b) => memchr2(a, b, text),
+            Few::Three(a, b, c) => memchr3(a, b, c, text),
+            Few::Many => if text.is_empty() { None } else { Some(0) },
+        }
     }
 
     /// Whether the text has none of its bytes. It takes time in the length of the text.

@@ -130,7 +130,7 @@ fn is_frequent(byte: u8) -> bool {
 }
 
 /// None of them is frequent.
-fn are_rare(bytes: &[bool; 256]) -> bool {
+pub(crate) fn are_rare(bytes: &[bool; 256]) -> bool {
     for byte in 0..128u8 {
         if bytes[byte as usize] && is_frequent(byte) {
             return false;

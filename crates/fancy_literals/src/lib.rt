@@ -3,4 +3,6 @@
 
 pub mod byte_set;
 mod bytes;
+pub mod firsts;
 pub mod required;
+pub mod starts;

@@ -1,7 +1,6 @@
 pub mod Reading
 pub mod Passed
 pub mod Rules
-pub mod NodeKinds
 pub mod Holding
 pub mod Kept
 pub mod Steps

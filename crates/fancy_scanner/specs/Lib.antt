@@ -5,4 +5,3 @@ pub mod Limits
 pub mod Scanning
 pub mod Scans
 pub mod Searched
-pub mod NodeKinds

@@ -3,7 +3,6 @@
 
 mod among;
 mod answers;
-mod node_kind;
 mod reuse;
 pub mod scan_cache;
 pub mod scan_limit;

@@ -7,8 +7,8 @@ ghost use Rattle.fancy_search.specs.Searches.{input_of};
 ghost use Rattle.fancy_scanner.specs.Reuse.{IsReuse, is_anchored};
 ghost use Rattle.fancy_scanner.specs.Reuse as reuse;
 
-use crate::node_kind::{NodeKind, has_kind};
 use fancy_expr::expr::ExprTree;
+use fancy_search::node_kind::{NodeKind, has_kind};
 use fancy_search::search::SearchOptions;
 
 /// Which results of a search for a tree hold from later places on too.

@@ -4,3 +4,6 @@ pub mod TooShort
 pub mod GearLaws
 pub mod Pairs
 pub mod ThreadsLaws
+pub mod CandidateLaws
+pub mod CandidateAnswers
+pub mod NodeKinds

@@ -3,3 +3,5 @@ pub mod Needs
 pub mod Requests
 pub mod Searches
 pub mod Scratches
+pub mod Candidates
+pub mod NodeKinds

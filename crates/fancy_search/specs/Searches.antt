@@ -33,6 +33,9 @@ use Rattle.fancy_compile.specs.Compiled.{compile_options_of, IsNestedOver as pla
 use Rattle.fancy_expr.specs.Errors.{error_of}
 use Rattle.fancy_search.specs.Needs.{IsNeededIn}
 use Rattle.fancy_search.specs.Copies.{trees_in}
+use Rattle.fancy_literals.specs.Starts.{AreStartsOf}
+use Rattle.fancy_literals.specs.declared.starts.Starts.{Starts}
+use Rattle.fancy_starts.specs.Matches.{has_continue}
 use Rattle.fancy_search.specs.declared.common.Common.{Common}
 use Rattle.fancy_search.specs.declared.search.Compiled.{Compiled}
 use Rattle.fancy_search.specs.declared.search.SearchOptions.{SearchOptions}
@@ -129,6 +132,12 @@ module _ (i : Input) where
     pub any_end : (i.options).end_text ≡ false
     pub implicit : (i.analysis).explicit_capture_group_0 ≡ false
 
+  -- No match begins elsewhere, and no search depends on where it begins.
+  pub record BeginsAt (s : Starts) : Type 0 where
+    pub starts : AreStartsOf s (i.options).unicode (i.parsed).tree
+    pub any_start : (i.options).anchored ≡ false
+    pub no_continue : has_continue (plan i).analysis.tree ≡ false
+
   -- the tree is refused with the error, with this limit of nesting, or memory was
   abbrev pub IsRefusedAs : Option ℕ → Error → Type 0
   IsRefusedAs max_nesting (error.CompileError e) = IsRefused i (instructions_of i) (error_of e)
@@ -152,6 +161,8 @@ module _ (i : Input) where
     pub common : IfSome compiled.common IsCopied
     -- each match takes what it looks for
     pub needed : IfSome compiled.needed (IsNeededIn i)
+    -- its matches begin at its candidates
+    pub starts : IfSome compiled.starts BeginsAt
 
 -- it was compiled from some tree
 abbrev pub HasSource : Compiled → Type 0

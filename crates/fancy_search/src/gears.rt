@@ -1,6 +1,6 @@
 //! Searches by an engine.
 
-ghost use Rattle.std.specs.Prelude.{◌≡◌, ℕ, IfOk, IfSome, IsTrue, None, OnOk, false, is_some, option_map};
+ghost use Rattle.std.specs.Prelude.{◌≡◌, ℕ, [], IfOk, IfSome, IsTrue, None, Some, OnOk, false, is_some, option_map};
 ghost use Rattle.fancy_meaning.specs.Answer.{answer, search_of};
 ghost use Rattle.fancy_meaning.specs.Fits.{run_fits};
 ghost use Rattle.fancy_meaning.specs.Premises.{Input, plan};
@@ -9,12 +9,16 @@ ghost use Rattle.fancy_steps.specs.Outcomes.{answer_in, first_pair};
 ghost use Rattle.fancy_steps.specs.SearchLimits.{StaysWithin};
 ghost use Rattle.fancy_steps.specs.Tasks.{options_of as run_options_of, task_of};
 ghost use Rattle.fancy_search.specs.Scratches.{Suits, limits_of, passed_of};
+ghost use Rattle.fancy_search.specs.Candidates.{IsTold, MayGoOn, from_byte};
+ghost use Rattle.fancy_search.specs.declared.candidates.Tried.TheVariants as tried;
 ghost use Rattle.fancy_search.specs.Searches.{Bounds, IsCompiledFrom, Promises, PromisesPair, program};
 
+use crate::candidates::Tried;
 use crate::scratch::Scratch;
 use crate::search::Compiled;
 use fancy_expr::error::Error;
 use fancy_hybrid::search::{Stop, search_into};
+use fancy_literals::starts::Starts;
 use fancy_vm::vm::{RunOptions, SearchLimit, SearchLimits, run_into, run_spans};
 use std::alloc::Global;
 
@@ -33,6 +37,25 @@ fn end_of(text: &str, is_match: bool, numbers: &Vec<usize>) -> usize {
         (true, Some(end)) => *end,
         _ => text.len(),
     }
+}
+
+/// The same options, from this byte on.
+fn from_byte(options: &RunOptions, at: usize) -> RunOptions
+    ensures { run_options_of result ≡ from_byte at (run_options_of options.now) }
+{
+    let mut later = *options;
+    later.pos = at;
+    later
+}
+
+/// Start and end of the match that has these numbers.
+fn pair_of(numbers: &Vec<usize>) -> (usize, usize)
+    ensures { result ≡ first_pair numbers.now.items }
+{
+    (
+        numbers.get(0).copied().unwrap_or(usize::MAX),
+        numbers.get(1).copied().unwrap_or(usize::MAX),
+    )
 }
 
 impl Compiled {
@@ -259,8 +282,85 @@ impl Compiled {
         }
     }
 
-    /// As `search_into`, by a run.
-    pub(crate) fn search_by_run(
+    /// The candidates, if they are known and these options ask for more than one start.
+    fn starts_for(&self, options: &RunOptions) -> Option<&Starts>
+        ensures known { IfSome result (λ starts. self.now.starts ≡ Some starts.now) }
+        ensures any_start { IfSome result (λ _. options.now.anchored ≡ false) }
+    {
+        if options.anchored {
+            return None;
+        }
+        self.starts.as_ref()
+    }
+
+    /// As `search_into`, from candidates if they are known, else by a run.
+    fn search_by_run(
+        &self,
+        alloc: Global,
+        text: &str,
+        options: &RunOptions,
+        scratch: &mut Scratch,
+        numbers: &mut Vec<usize>,
+    ) -> Result<bool, Error>
+        requires fits { IsTrue (run_fits (task_of (program self.now) text.now options.now)) }
+        requires suits { Suits self.now scratch.old }
+        ensures promise { (i : Input)
+            → IsCompiledFrom i self.now
+            → Promises i text.now (run_options_of options.now) (answer_in result numbers.new) }
+        ensures bounds { (i : Input)
+            → IsCompiledFrom i self.now
+            → Bounds i text.now (run_options_of options.now) (answer_in result numbers.new) }
+        ensures limits { limits_of scratch.new ≡ limits_of scratch.old }
+        ensures stays { StaysWithin result (passed_of scratch.new) }
+        ensures suits { Suits self.now scratch.new }
+    {
+        let Some(starts) = self.starts_for(options) else {
+            return self.search_by_one_run(alloc, text, options, scratch, numbers);
+        };
+        let runs = &mut scratch.runs;
+        match self.try_candidates(alloc, starts, text, options, runs, numbers) {
+            Tried::Found(found) => Ok(found),
+            Tried::From(at) => self.search_on(alloc, text, options, at, scratch, numbers),
+        }
+    }
+
+    /// As `search_into`, if a search from byte `at` on answers the same: by a run from there, or if that has no answer by
+    /// one of the whole search.
+    fn search_on(
+        &self,
+        alloc: Global,
+        text: &str,
+        options: &RunOptions,
+        at: usize,
+        scratch: &mut Scratch,
+        numbers: &mut Vec<usize>,
+    ) -> Result<bool, Error>
+        requires fits { IsTrue (run_fits (task_of (program self.now) text.now options.now)) }
+        requires on { MayGoOn text.now options.now.pos (tried.From at) }
+        requires told { (i : Input) → IsCompiledFrom i self.now
+            → IsTold i text.now (run_options_of options.now) [] (tried.From at) }
+        requires suits { Suits self.now scratch.old }
+        ensures promise { (i : Input)
+            → IsCompiledFrom i self.now
+            → Promises i text.now (run_options_of options.now) (answer_in result numbers.new) }
+        ensures bounds { (i : Input)
+            → IsCompiledFrom i self.now
+            → Bounds i text.now (run_options_of options.now) (answer_in result numbers.new) }
+        ensures limits { limits_of scratch.new ≡ limits_of scratch.old }
+        ensures stays { StaysWithin result (passed_of scratch.new) }
+        ensures suits { Suits self.now scratch.new }
+    {
+        if at > options.pos {
+            let later = from_byte(options, at);
+            if let Ok(found) = self.search_by_one_run(alloc, text, &later, scratch, numbers) {
+                return Ok(found);
+            }
+        }
+        self.search_by_one_run(alloc, text, options, scratch, numbers)
+    }
+
+    /// As `search_into`, by one run.
+    pub(crate) fn search_by_one_run(
         &self,
         alloc: Global,
         text: &str,
@@ -290,8 +390,68 @@ impl Compiled {
         answer
     }
 
-    /// As `find`, by a run.
+    /// As `find`, from candidates if they are known, else by a run.
     fn find_by_run(
+        &self,
+        alloc: Global,
+        text: &str,
+        options: &RunOptions,
+        scratch: &mut Scratch,
+    ) -> Result<Option<(usize, usize)>, Error>
+        requires fits { IsTrue (run_fits (task_of (program self.now) text.now options.now)) }
+        requires suits { Suits self.now scratch.old }
+        ensures promise { (i : Input)
+            → IsCompiledFrom i self.now
+            → PromisesPair i text.now (run_options_of options.now) result }
+        ensures limits { limits_of scratch.new ≡ limits_of scratch.old }
+        ensures stays { StaysWithin result (passed_of scratch.new) }
+        ensures suits { Suits self.now scratch.new }
+    {
+        let Some(starts) = self.starts_for(options) else {
+            return self.find_by_one_run(alloc, text, options, scratch);
+        };
+        let runs = &mut scratch.runs;
+        let numbers = &mut scratch.numbers;
+        match self.try_candidates(alloc, starts, text, options, runs, numbers) {
+            Tried::Found(true) => Ok(Some(pair_of(&scratch.numbers))),
+            Tried::Found(false) => Ok(None),
+            Tried::From(at) => self.find_on(alloc, text, options, at, scratch),
+        }
+    }
+
+    /// As `find`, if a search from byte `at` on answers the same: by a run from there, or if that has no answer by one of
+    /// the whole search.
+    fn find_on(
+        &self,
+        alloc: Global,
+        text: &str,
+        options: &RunOptions,
+        at: usize,
+        scratch: &mut Scratch,
+    ) -> Result<Option<(usize, usize)>, Error>
+        requires fits { IsTrue (run_fits (task_of (program self.now) text.now options.now)) }
+        requires on { MayGoOn text.now options.now.pos (tried.From at) }
+        requires told { (i : Input) → IsCompiledFrom i self.now
+            → IsTold i text.now (run_options_of options.now) [] (tried.From at) }
+        requires suits { Suits self.now scratch.old }
+        ensures promise { (i : Input)
+            → IsCompiledFrom i self.now
+            → PromisesPair i text.now (run_options_of options.now) result }
+        ensures limits { limits_of scratch.new ≡ limits_of scratch.old }
+        ensures stays { StaysWithin result (passed_of scratch.new) }
+        ensures suits { Suits self.now scratch.new }
+    {
+        if at > options.pos {
+            let later = from_byte(options, at);
+            if let Ok(found) = self.find_by_one_run(alloc, text, &later, scratch) {
+                return Ok(found);
+            }
+        }
+        self.find_by_one_run(alloc, text, options, scratch)
+    }
+
+    /// As `find`, by one run.
+    fn find_by_one_run(
         &self,
         alloc: Global,
         text: &str,

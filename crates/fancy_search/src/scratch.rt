@@ -27,6 +27,8 @@ const SEARCH: usize = 40;
 /// of runs. By the kit's budgets their tables have up to 8 MiB each, which no limit counts.
 pub struct Scratch {
     pub(crate) runs: runs::Scratch,
+    /// The numbers of a match of which the span alone is asked.
+    pub(crate) numbers: Vec<usize>,
     pub(crate) engine: Option<Box<Engine>>,
     /// What runs cost beyond an engine's searches, in bytes that an engine reads.
     excess: usize,
@@ -41,6 +43,7 @@ impl Drop for Scratch {
     fn drop(self) {
         let Scratch {
             runs: _,
+            numbers: _,
             engine: _,
             excess: _,
             spent: _,
@@ -60,6 +63,7 @@ impl Scratch {
     {
         Scratch {
             runs: runs::Scratch::new(alloc),
+            numbers: Vec::new(alloc),
             engine: None,
             excess: 0,
             spent: 0,

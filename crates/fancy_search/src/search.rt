@@ -16,6 +16,7 @@ ghost use Rattle.fancy_search.specs.Searches.{Bounds, IsCompiledFrom, IsMadeWith
 ghost use Rattle.fancy_search.specs.Searches as searches;
 ghost use Rattle.fancy_search.specs.Scratches.{Suits, limits_of, passed_of};
 
+use crate::candidates::starts_of;
 use crate::common::{Common, common_of};
 use crate::needed::{Needed, needed_by};
 use crate::scratch::Scratch;
@@ -24,6 +25,7 @@ use fancy_characters::places::is_place;
 use fancy_compile::compile::{CompileOptions, compile};
 use fancy_expr::error::Error;
 use fancy_expr::expr::ExprTree;
+use fancy_literals::starts::Starts;
 use fancy_vm::vm::{Prog, RunOptions};
 use std::alloc::Global;
 
@@ -101,6 +103,10 @@ pub struct Compiled {
     pub(crate) common: Option<Common>,
     /// What each match takes, if something is known.
     needed: Option<Needed>,
+    /// Where its matches may begin, if that is known and its program is run for searches.
+    pub(crate) starts: Option<Starts>,
+    /// Runs of the program skip starts by themselves.
+    pub(crate) skips_starts: bool,
 }
 
 // Not derived: whoever owns one calls this drop, and would prove a derived one again (docs/GATE.md).
@@ -111,6 +117,8 @@ impl Drop for Compiled {
             min_size: _,
             common: _,
             needed: _,
+            starts: _,
+            skips_starts: _,
         } = self;
     }
 }
@@ -141,13 +149,17 @@ impl Compiled {
         let info = analyze(alloc, tree, context)?;
         let min_size = info.min_size();
         let prog = compile(alloc, &info, options)?;
+        let skips_starts = prog.prefilter.is_some() || prog.look_prefilter.is_some();
         let common = common_of(prog.body(), &info, options)?;
         let needed = needed_by(alloc, &tree.expr, options.unicode, info.hard())?;
+        let starts = starts_of(alloc, tree, options, info.hard())?;
         Ok(Compiled {
             prog,
             min_size,
             common,
             needed,
+            starts,
+            skips_starts,
         })
     }
 
@@ -167,6 +179,8 @@ impl Compiled {
             min_size: _,
             common: _,
             needed: _,
+            starts: _,
+            skips_starts: _,
         } = self;
         prog
     }
@@ -314,7 +328,7 @@ impl Compiled {
         if self.is_too_short(text, options.pos) {
             return Ok(None);
         }
-        let found = self.search_by_run(alloc, text, options, scratch, &mut numbers)?;
+        let found = self.search_by_one_run(alloc, text, options, scratch, &mut numbers)?;
         Ok(if found { Some(numbers) } else { None })
     }
 

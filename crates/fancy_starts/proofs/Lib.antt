@@ -4,3 +4,4 @@ pub mod Placeless
 pub mod KeptStarts
 pub mod Matches
 pub mod Longest
+pub mod Skipped

@@ -130,10 +130,10 @@ match_of_answer q h free from numbers e = go (match_of q) refl
 
 module _ (q : Search) (pos : ℕ) (continued : Bool) (not_anchored : q.anchored ≡ false) (free : has_continue q.tree ≡ false)
     (le : q.pos ≤ pos) where
-  abbrev later : Search
+  abbrev pub later : Search
   later = begun_at pos continued q
 
-  same_attempts : attempt later ≡ attempt q
+  pub same_attempts : attempt later ≡ attempt q
   same_attempts =
       fun_ext (λ start.
       ap (λ (w : Ways). chosen q.leftmost_longest (filter (is_admitted q start) (w (first_state start))))

@@ -30,6 +30,10 @@ match_of q = slice_get (filter_map (found_at q) (starts q)) 0
 abbrev pub begun_at : ℕ → Bool → Search → Search
 begun_at pos continued q = record q { setting = record (q.setting) { pos = pos; continued = continued } }
 
+-- the same search, of this start alone
+abbrev pub anchored_at : ℕ → Bool → Search → Search
+anchored_at pos continued q = record (begun_at pos continued q) { anchored = true }
+
 -- the same search for the first match, or for the longest, at the earliest start
 abbrev pub for_first : Search → Search
 for_first q = record q { leftmost_longest = false }

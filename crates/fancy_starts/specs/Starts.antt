@@ -1,8 +1,9 @@
 -- Where a match begins, and where a search may begin, as types.
-use Rattle.std.specs.Prelude.{◌≡◌, ℕ, ◌-◌, ◌≤◌, Bool, false, List, ◌∷◌, length, Option, Some, None, option_map}
+use Rattle.std.specs.Prelude.{◌≡◌, ℕ, ◌-◌, ◌≤◌, ◌<◌, Bool, true, false, List, ◌∷◌, length, MatchOption, Option, Some, None, option_map}
+use Rattle.fancy_meaning.specs.Places.{is_place}
 use Rattle.fancy_meaning.specs.Nodes.{group_count}
-use Rattle.fancy_meaning.specs.Answer.{Search, as_numbers, reported, answer}
-use Rattle.fancy_starts.specs.Matches.{has_continue, has_keep_out, Found, match_of, begun_at, for_first, for_longest}
+use Rattle.fancy_meaning.specs.Answer.{Search, as_numbers, attempt, reported, answer}
+use Rattle.fancy_starts.specs.Matches.{has_continue, has_keep_out, Found, match_of, anchored_at, begun_at, for_first, for_longest}
 
 -- The answer is the match as numbers.
 abbrev pub AnswerIsOfMatch : Type 0
@@ -36,6 +37,19 @@ abbrev pub SameAnswerFromLater : Type 0
 SameAnswerFromLater = (q : Search) (pos from : ℕ) (continued : Bool) (numbers : List ℕ) → q.anchored ≡ false →
     has_continue q.tree ≡ false → has_keep_out q.tree ≡ false → q.pos ≤ pos → pos ≤ from →
     answer q ≡ Some (from ∷ numbers) → answer (begun_at pos continued q) ≡ Some (from ∷ numbers)
+
+-- where no way from a start before a later place is admitted, the answer is that from the later place
+abbrev pub AnswerFromNext : Type 0
+AnswerFromNext = (q : Search) (pos : ℕ) (continued : Bool) → q.anchored ≡ false → has_continue q.tree ≡ false → q.pos ≤ pos →
+    ((start : ℕ) → q.pos ≤ start → start < pos → is_place q.text start ≡ true → attempt q start ≡ None) →
+    answer q ≡ answer (begun_at pos continued q)
+
+-- what is answered of one start alone is answered of the search from there, and if it is nothing, no way from there is admitted
+abbrev pub AnswerOfOneStart : Type 0
+AnswerOfOneStart = (q : Search) (pos : ℕ) (continued : Bool) → q.anchored ≡ false → has_continue q.tree ≡ false → q.pos ≤ pos →
+    is_place q.text pos ≡ true →
+    MatchOption (answer (anchored_at pos continued q)) (attempt q pos ≡ None)
+    (λ numbers. answer (begun_at pos continued q) ≡ Some numbers)
 
 -- ---- the longest match beside the first
 

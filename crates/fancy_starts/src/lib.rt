@@ -2,7 +2,7 @@
 //! of a function that does nothing.
 #![tactic(auto)]
 
-ghost use Rattle.fancy_starts.specs.Starts.{AnswerIsOfMatch, AnswerBeginsAtItsStart, MatchOfAnswer, NoneFromLater, SameMatchFromLater, SameAnswerFromLater, LongestBesideFirst, LongestAnswerBesideFirst, LongestEndsNoEarlier};
+ghost use Rattle.fancy_starts.specs.Starts.{AnswerIsOfMatch, AnswerBeginsAtItsStart, AnswerFromNext, AnswerOfOneStart, MatchOfAnswer, NoneFromLater, SameMatchFromLater, SameAnswerFromLater, LongestBesideFirst, LongestAnswerBesideFirst, LongestEndsNoEarlier};
 
 /// The answer of a search is its match as numbers: the chosen way at the earliest start that has an admitted one.
 pub fn answer_is_of_match()
@@ -32,6 +32,17 @@ pub fn same_match_from_later()
 /// Without `\G` and `\K`, an answer is the same from each later place up to where it begins.
 pub fn same_answer_from_later()
     ensures { SameAnswerFromLater }
+{}
+
+/// Without `\G`, starts from which no way is admitted can be passed over.
+pub fn answer_from_next()
+    ensures { AnswerFromNext }
+{}
+
+/// Without `\G`, an attempt from one start alone tells what a search from there answers, or that no way from there is
+/// admitted.
+pub fn answer_of_one_start()
+    ensures { AnswerOfOneStart }
 {}
 
 /// A search for the longest match has one exactly where a search for the first has, at the same tried start, and it is

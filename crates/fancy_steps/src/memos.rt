@@ -108,7 +108,8 @@ impl Memos {
 
     /// The searches of this run took nothing yet.
     pub fn forget_cost(&mut self)
-        ensures { self.new.cost ≡ no_cost }
+        ensures cost { self.new.cost ≡ no_cost }
+        ensures memos { (task : tasks.Task) → AreMemosOf task self.old → AreMemosOf task self.new }
     {
         self.cost = SearchCost::none();
         self.read = 0;
@@ -157,6 +158,7 @@ impl Memos {
     pub fn count_bytes(&mut self, bytes: usize)
         ensures visits { self.new.cost.visits ≡ self.old.cost.visits }
         ensures bytes { self.new.cost.bytes ≡ max self.old.cost.bytes bytes }
+        ensures memos { (task : tasks.Task) → AreMemosOf task self.old → AreMemosOf task self.new }
     {
         self.cost.bytes = self.cost.bytes.max(bytes);
     }

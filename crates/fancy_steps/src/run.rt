@@ -22,6 +22,7 @@ impl Machine<'_> {
         requires memos { AreMemosOf self.old.task memos.old }
         ensures task { self.new.task ≡ self.old.task }
         ensures finds { RunEnds (machine.run (plain_task self.old.task)) result self.new }
+        ensures memos { AreMemosOf self.old.task memos.new }
     {
         let mut left = self.task.options.step_limit;
         let prog = self.task.prog;
@@ -51,9 +52,10 @@ impl Machine<'_> {
         requires text { IsUtf8 self.old.task.text.now }
         requires place { IsTrue (is_place self.old.task.text.now self.old.task.options.now.pos) }
         requires memos { AreMemosOf self.old.task memos.old }
-        ensures { RunAnswers
+        ensures answers { RunAnswers
             (machine.run (plain_task self.old.task))
             (answer_in result numbers.new) }
+        ensures memos { AreMemosOf self.old.task memos.new }
     {
         let by_slots = self.run(memos)?;
         self.write_ending(by_slots, numbers)
@@ -77,7 +79,8 @@ impl Machine<'_> {
         requires text { IsUtf8 self.old.task.text.now }
         requires place { IsTrue (is_place self.old.task.text.now self.old.task.options.now.pos) }
         requires memos { AreMemosOf self.old.task memos.old }
-        ensures { RunAnswersPair (machine.run (plain_task self.old.task)) result }
+        ensures answers { RunAnswersPair (machine.run (plain_task self.old.task)) result }
+        ensures memos { AreMemosOf self.old.task memos.new }
     {
         if !self.run(memos)? {
             return Ok(self.longest.first_pair());

@@ -3,3 +3,4 @@ pub mod SteppersLaws
 pub mod MeaningLaws
 pub mod BoundsLaws
 pub mod SingleDelegateLaws
+pub mod AttemptsLaws

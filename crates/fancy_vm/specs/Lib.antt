@@ -6,3 +6,4 @@ pub mod StepperSteps
 pub mod Founds
 pub mod HeldWays
 pub mod Scratches
+pub mod Attempts

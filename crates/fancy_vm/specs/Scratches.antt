@@ -29,9 +29,13 @@ limits_of s = s.limits
 abbrev pub cost_of : Scratch → SearchCost
 cost_of s = cost_in (s.room).memos
 
+-- how much the machine of its last run did
+abbrev pub machine_work_of : Scratch → ℕ
+machine_work_of s = (s.room).work
+
 -- how much its last run did
 abbrev pub work_of : Scratch → ℕ
-work_of s = min usize_max ((cost_of s).visits + (s.room).work)
+work_of s = min usize_max ((cost_of s).visits + machine_work_of s)
 
 -- what failed attempts of its runs took
 abbrev pub spent_of : Scratch → ℕ

@@ -1,20 +1,22 @@
 //! Runs of a program.
 
-ghost use Rattle.std.specs.Prelude.{◌≡◌, IsTrue, IfOk, IfErr, OnOk, None, false, is_some, max};
+ghost use Rattle.std.specs.Prelude.{◌≡◌, ℕ, List, IsTrue, IfOk, IfErr, OnOk, None, false, is_some, max};
 ghost use Rattle.fancy_meaning.specs.Config as config;
 ghost use Rattle.fancy_meaning.specs.Machine as machine;
 ghost use Rattle.fancy_meaning.specs.Fits.{run_fits};
 ghost use Rattle.fancy_meaning.specs.Premises.{IsText};
+ghost use Rattle.fancy_vm.specs.Attempts.{MayAttempt};
 ghost use Rattle.fancy_vm.specs.Bounds.{IfLimit, RunMayPass};
 ghost use Rattle.fancy_vm.specs.Founds.{IsMatchWith};
 ghost use Rattle.fancy_vm.specs.Means.{IsMeaning, IsMeaningPair, numbers_of};
 ghost use Rattle.fancy_steps.specs.Outcomes.{RunAnswers, RunAnswersPair, answer_in, held_match, plain_task};
-ghost use Rattle.fancy_vm.specs.Ready.{AreFresh, IsReady};
-ghost use Rattle.fancy_steps.specs.SearchLimits.{StaysWithin, is_past, exceeds_bytes, no_limits};
+ghost use Rattle.fancy_vm.specs.Ready.{AreFresh, AreMemosIn, IsReady, KeepsMemos};
+ghost use Rattle.fancy_steps.specs.SearchLimits.{StaysWithin, is_past, exceeds_bytes, no_cost, no_limits};
 ghost use Rattle.fancy_state.specs.Held.{first_state};
 ghost use Rattle.fancy_state.specs.Refused.{IsMemory};
 ghost use Rattle.fancy_program.specs.Programs.{prog_of};
-ghost use Rattle.fancy_vm.specs.Scratches.{IsUnused, allocator_of, limits_of, passed_of};
+ghost use Rattle.fancy_program.specs.declared.insn.Prog as progs;
+ghost use Rattle.fancy_vm.specs.Scratches.{IsUnused, allocator_of, cost_of, limits_of, passed_of};
 ghost use Rattle.fancy_steps.specs.Tasks.{default_at, default_task, options_of, task_of};
 
 use crate::strategy::{Found, run_by_strategy, write_groups, write_pair};
@@ -79,8 +81,7 @@ impl Drop for Room {
 }
 
 impl Scratch {
-    ghost use Rattle.fancy_steps.specs.SearchLimits.{no_cost};
-    ghost use Rattle.fancy_vm.specs.Scratches.{cost_of, spent_of, work_of};
+    ghost use Rattle.fancy_vm.specs.Scratches.{machine_work_of, spent_of, work_of};
 
     /// Holds no memory yet, and takes none. There is no limit.
     pub fn new(alloc: Global) -> Scratch
@@ -140,6 +141,13 @@ impl Scratch {
         ensures { result ≡ work_of self.now }
     {
         self.room.cost().visits.saturating_add(self.room.work)
+    }
+
+    /// How much the machine of the last run or attempt did: its backtracks, and one for each eight instructions.
+    pub fn machine_work(&self) -> u64
+        ensures { result ≡ machine_work_of self.now }
+    {
+        self.room.work
     }
 
     /// What failed attempts of all runs took that searched for one fragment, in attempts that read little.
@@ -216,6 +224,53 @@ pub fn run_into(
     }
 }
 
+/// Attempts of one search may follow, of one program on one text: none of them took or noted anything yet.
+pub fn begin_attempts(scratch: &mut Scratch)
+    ensures may { (prog : progs.Prog) (text : List ℕ) → MayAttempt prog text scratch.new }
+    ensures cost { cost_of scratch.new ≡ no_cost }
+    ensures limits { limits_of scratch.new ≡ limits_of scratch.old }
+{
+    scratch.room.renew_memos();
+    scratch.room.forget_cost();
+}
+
+/// As `run_into` by the machine, for one attempt of a search (`begin_attempts`): what earlier ones noted of the text
+/// stays, and what they took counts to the limits of the scratch. After an error, too, others may follow.
+pub fn attempt_into(
+    alloc: Global,
+    prog: &Prog,
+    text: &str,
+    options: &RunOptions,
+    scratch: &mut Scratch,
+    numbers: &mut Vec<usize>,
+) -> Result<bool, Error>
+    requires fits { IsTrue (run_fits (task_of prog.now text.now options.now)) }
+    requires may { MayAttempt prog.now text.now scratch.old }
+    ensures machine { RunAnswers
+        (machine.run (task_of prog.now text.now options.now))
+        (answer_in result numbers.new) }
+    ensures headline { IfOk (answer_in result numbers.new) (λ found.
+        IsMeaning (prog_of prog.now) text.now (options_of options.now) (numbers_of found)) }
+    ensures bounds { IfLimit (answer_in result numbers.new)
+        (RunMayPass (prog_of prog.now) text.now (options_of options.now)) }
+    ensures limits { limits_of scratch.new ≡ limits_of scratch.old }
+    ensures stays { StaysWithin result (passed_of scratch.new) }
+    ensures may { MayAttempt prog.now text.now scratch.new }
+{
+    let task = Task {
+        prog,
+        text,
+        options,
+        alloc,
+        limits: scratch.limits,
+    };
+    let answer = scratch.room.attempt(&task, numbers);
+    match scratch.passed() {
+        None => answer,
+        Some(_) => Err(Error::Memory),
+    }
+}
+
 /// As `run`, with the first pair of its numbers for an answer: start and end of the match in bytes.
 pub fn run_spans(
     alloc: Global,
@@ -271,7 +326,6 @@ fn wants_memory<T>(answer: &Result<T, Error>) -> bool {
 }
 
 impl Room {
-    ghost use Rattle.fancy_steps.specs.SearchLimits.{no_cost};
     ghost use Rattle.fancy_vm.specs.Scratches.{cost_in};
 
     /// Whether there is a match. Its numbers are written over these.
@@ -332,7 +386,8 @@ impl Room {
 
     /// The delegates of this run took nothing yet.
     fn forget_cost(&mut self)
-        ensures { cost_in self.new.memos ≡ no_cost }
+        ensures cost { cost_in self.new.memos ≡ no_cost }
+        ensures memos { KeepsMemos self.old.memos self.new.memos }
     {
         self.work = 0;
         if let Some(memos) = &mut self.memos {
@@ -365,8 +420,41 @@ impl Room {
         requires { IsTrue (run_fits (plain_task task.now)) }
         ensures { RunAnswers (machine.run (plain_task task.now)) (answer_in result numbers.new) }
     {
-        let slots = task.prog.parts.slots;
         self.renew(task)?;
+        self.answer_renewed(task, numbers)
+    }
+
+    /// The machine's answer to an attempt, whose numbers are written over these. `Memory` too where earlier ones exceeded
+    /// a limit.
+    #[inline(never)]
+    fn attempt(&mut self, task: &Task<'_>, numbers: &mut Vec<usize>) -> Result<bool, Error>
+        requires fits { IsTrue (run_fits (plain_task task.now)) }
+        requires memos { AreMemosIn task.now self.old.memos }
+        ensures answers { RunAnswers
+            (machine.run (plain_task task.now))
+            (answer_in result numbers.new) }
+        ensures memos { AreMemosIn task.now self.new.memos }
+    {
+        self.work = 0;
+        if task.limits.passed_by(self.cost()).is_some() {
+            return Err(Error::Memory);
+        }
+        self.renew_state(task.prog.parts.slots)?;
+        self.answer_renewed(task, numbers)
+    }
+
+    /// The machine's answer from a state and with memos that are made ready. Its numbers are written over these.
+    #[inline(always)]
+    fn answer_renewed(&mut self, task: &Task<'_>, numbers: &mut Vec<usize>) -> Result<bool, Error>
+        requires fits { IsTrue (run_fits (plain_task task.now)) }
+        requires state { IsReady task.now.prog.now.parts.slots self.old.state }
+        requires memos { AreMemosIn task.now self.old.memos }
+        ensures answers { RunAnswers
+            (machine.run (plain_task task.now))
+            (answer_in result numbers.new) }
+        ensures memos { AreMemosIn task.now self.new.memos }
+    {
+        let slots = task.prog.parts.slots;
         let mut m = Machine::begin(task, self.take_state(slots), self.take_longest());
         let Some(memos) = &mut self.memos else {
             unreachable!()
@@ -491,6 +579,7 @@ impl Room {
             → IsTrue (is_past m.entry.task.limits.bytes (cost_in self.new.memos).bytes) }
         ensures else_same { exceeds_bytes m.entry.task.limits m.entry.state ≡ false
             → cost_in self.new.memos ≡ cost_in self.old.memos }
+        ensures memos { KeepsMemos self.old.memos self.new.memos }
     {
         if wants_memory && m.exceeds_bytes() {
             self.count_bytes(m.state.bytes());
@@ -507,7 +596,8 @@ impl Room {
     #[inline(never)]
     fn count_bytes(&mut self, bytes: usize)
         requires { IsTrue (is_some self.old.memos) }
-        ensures { (cost_in self.new.memos).bytes ≡ max (cost_in self.old.memos).bytes bytes }
+        ensures bytes { (cost_in self.new.memos).bytes ≡ max (cost_in self.old.memos).bytes bytes }
+        ensures memos { KeepsMemos self.old.memos self.new.memos }
     {
         if let Some(memos) = &mut self.memos {
             memos.count_bytes(bytes);

@@ -1,6 +1,8 @@
 //! Instructions, programs, states and runs under the names of fancy-regex.
 
-pub use crate::runs::{Scratch, run, run_default, run_into, run_spans};
+pub use crate::runs::{
+    Scratch, attempt_into, begin_attempts, run, run_default, run_into, run_spans,
+};
 pub use crate::stepper::{Progress, Stepper};
 pub use fancy_fragments::delegate::{CaptureGroupRange, Delegate};
 pub use fancy_program::insn::{Insn, Prog, ProgParts};

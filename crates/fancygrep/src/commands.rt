@@ -10,8 +10,8 @@ const AFTER: &str =
 working folder; - is standard input too. --batch FILE, alone, runs each line of a \
 file as a command line, in which ' quotes. Status 0: a line is selected; 1: none is; 2: something failed.";
 
-/// Each option: its name, with another one after `/`; its letter, or `-`; what is written after it, or `-`; and what it says.
-/// An option whose word ends in `..` counts each time that it is given.
+/// Each option: its name, with another one after `/`; its letter, or `-`; what is written after it, or `-`, or `+` if its uses
+/// are counted; and what it says. An option whose word ends in `..` counts each time that it is given.
 const OPTIONS: &str = "\
 regexp e PATTERN.. Search for PATTERN; given several times, for any of them
 file f FILE.. Search for each line of FILE too
@@ -23,6 +23,7 @@ ignore-case i - Letters match in either case
 smart-case S - As -i, unless a pattern has a capital letter that is not after a backslash
 word-regexp w - No word character is before or after a match
 line-regexp x - A match is the whole line
+crlf - - A carriage return at the end of a line is no part of it, so that $ matches before it
 longest - - Find the longest match at the earliest start
 invert-match v - Select the lines without a match
 max-count m N Select at most N lines of a file
@@ -45,7 +46,10 @@ context C N Write N lines before and after each
 replace - TEMPLATE Write this for each match: $1 is its group 1, $0 all of it, $$ a dollar sign
 color/colour - [WHEN] Write in colours: always, never or auto, which is if standard output is a terminal
 line-buffered - - Write each line as soon as it is selected
-recursive r - Search folders, but for hidden files
+recursive r - Search folders, but for hidden files and what .gitignore and .ignore leave out
+hidden . - Under -r search hidden files and folders too
+no-ignore - - Under -r search what ignore files leave out too
+unrestricted u + As --no-ignore; given twice, as --hidden too
 include - GLOB.. Search only files whose name GLOB matches
 exclude - GLOB.. Search no file whose name GLOB matches
 exclude-dir - GLOB.. Under -r search no folder whose name GLOB matches
@@ -91,6 +95,7 @@ fn argument<'a>(alloc: Global, line: &'a str) -> Result<Arg<'a>, AllocError> {
     let option = option.overrides_with(name)?.overrides_with(rival(name))?;
     Ok(match value {
         "-" => option.action(ArgAction::SetTrue),
+        "+" => option.action(ArgAction::Count),
         "N" | "BYTES" => option.value_name(value).value_parser(value_parser!(u64)),
         "[WHEN]" => option
             .value_name("WHEN")

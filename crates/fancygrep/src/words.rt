@@ -6,6 +6,7 @@ use clap::{ArgMatches, Error};
 use fancy_grep::context::Context;
 use fancy_grep::files::search;
 use fancy_grep::lines::Lines;
+use fancy_grep::matching::Choice;
 use fancy_grep::patterns::{Extent, Limits, PatternOptions};
 use fancy_grep::rules::{Rule, Rules};
 use fancy_grep::settings::{Report, Settings};
@@ -150,7 +151,7 @@ fn patterns(rt: &HostRuntime, matches: &ArgMatches<'_>) -> Result<Option<Vec<Str
     Ok(Some(patterns))
 }
 
-/// The files that are named; where none is, standard input or the working folder.
+/// The files that are named; if none is, standard input, and none for the working folder.
 fn paths<'a>(alloc: Global, matches: &ArgMatches<'a>) -> Result<Vec<&'a str>, AllocError> {
     let mut paths = Vec::new(alloc);
     if has_patterns(matches) {
@@ -159,12 +160,8 @@ fn paths<'a>(alloc: Global, matches: &ArgMatches<'a>) -> Result<Vec<&'a str>, Al
         }
     }
     paths.extend_from_slice(matches.get_strs("FILE").unwrap_or(&[]))?;
-    if paths.is_empty() {
-        paths.push(if matches.get_flag("recursive") {
-            "."
-        } else {
-            "-"
-        })?;
+    if paths.is_empty() && !matches.get_flag("recursive") {
+        paths.push("-")?;
     }
     Ok(paths)
 }
@@ -225,7 +222,8 @@ fn folder_rules(alloc: Global, matches: &ArgMatches<'_>) -> Result<Vec<Rule>, Al
 fn path_rules(alloc: Global, matches: &ArgMatches<'_>) -> Result<Vec<Rule>, AllocError> {
     let mut rules = Vec::new(alloc);
     for glob in matches.get_strs("glob").unwrap_or(&[]) {
-        rules.push(Rule::of_path(alloc, glob, true)?)?;
+        let glob: Vec<char> = glob.chars().collect(alloc)?;
+        rules.push(Rule::of_path(alloc, &glob, true)?)?;
     }
     Ok(rules)
 }
@@ -243,6 +241,7 @@ fn search_by(
     let files = name_rules(rt.alloc(), matches, words)?;
     let folders = folder_rules(rt.alloc(), matches)?;
     let by_path = path_rules(rt.alloc(), matches)?;
+    let unrestricted = matches.get_count("unrestricted");
     let settings = Settings {
         pattern: options_of(matches, &patterns),
         is_recursive: matches.get_flag("recursive"),
@@ -250,9 +249,15 @@ fn search_by(
             files: &files,
             folders: &folders,
             paths: &by_path,
+            types: &[],
+            has_hidden: matches.get_flag("hidden") || unrestricted > 1,
+            has_ignored: matches.get_flag("no-ignore") || unrestricted > 0,
         },
         report: report_of(matches),
-        inverted: matches.get_flag("invert-match"),
+        choice: Choice {
+            inverted: matches.get_flag("invert-match"),
+            has_returns: matches.get_flag("crlf"),
+        },
         most: matches.get_one::<usize>("max-count"),
         has_numbers: matches.get_flag("line-number"),
         has_columns: matches.get_flag("column"),

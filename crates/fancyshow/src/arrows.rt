@@ -1,4 +1,4 @@
-//! Where the instructions of a program lead, and lanes in which arrows are drawn so that none runs over another.
+//! Where the instructions of a program lead.
 
 use fancy_vm::vm::{Insn, Prog};
 use std::alloc::{AllocError, Global};
@@ -22,20 +22,10 @@ impl Arrow {
         self.to <= self.from
     }
 
-    fn top(&self) -> usize {
-        self.from.min(self.to)
+    /// How many boxes on the arrow leads, or back.
+    pub fn distance(&self) -> usize {
+        self.from.abs_diff(self.to)
     }
-
-    fn bottom(&self) -> usize {
-        self.from.max(self.to)
-    }
-}
-
-/// An arrow, and the number of its lane.
-#[derive(Clone, Copy)]
-pub struct Lane {
-    pub arrow: Arrow,
-    pub lane: usize,
 }
 
 /// What is gone to first from an instruction, and what is tried after a failure.
@@ -81,56 +71,4 @@ pub fn arrows(alloc: Global, prog: &Prog) -> Result<Vec<Arrow>, AllocError> {
         push_arrow(&mut arrows, place, second, true)?;
     }
     Ok(arrows)
-}
-
-/// The first lane that ends above this place, of lanes that end at these places.
-fn free_lane(ends: &[usize], top: usize) -> Option<usize> {
-    ends.iter().position(|end| *end < top)
-}
-
-/// Those of the arrows that are not short and lead back, or those that lead on, from the one that begins uppermost on.
-fn sorted(alloc: Global, arrows: &[Arrow], are_back: bool) -> Result<Vec<Arrow>, AllocError> {
-    let mut sorted = Vec::new(alloc);
-    for arrow in arrows {
-        if !arrow.is_short() && arrow.is_back() == are_back {
-            sorted.push(*arrow)?;
-        }
-    }
-    sorted.sort_by_key(|arrow| arrow.top())?;
-    Ok(sorted)
-}
-
-/// A lane for an arrow, of lanes that end at these places.
-fn take_lane(ends: &mut Vec<usize>, arrow: Arrow) -> Result<Lane, AllocError> {
-    let lane = match free_lane(ends, arrow.top()) {
-        Some(lane) => lane,
-        None => {
-            ends.push(0)?;
-            ends.len() - 1
-        }
-    };
-    if let Some(end) = ends.get_mut(lane) {
-        *end = arrow.bottom();
-    }
-    Ok(Lane { arrow, lane })
-}
-
-fn push_lanes(
-    lanes: &mut Vec<Lane>,
-    ends: &mut Vec<usize>,
-    sorted: &[Arrow],
-) -> Result<(), AllocError> {
-    for arrow in sorted {
-        lanes.push(take_lane(ends, *arrow)?)?;
-    }
-    Ok(())
-}
-
-/// Gives each long arrow that leads back, or each that leads on, a lane, and not the same to two that overlap.
-pub fn lanes(alloc: Global, arrows: &[Arrow], are_back: bool) -> Result<Vec<Lane>, AllocError> {
-    let sorted = sorted(alloc, arrows, are_back)?;
-    let mut ends = Vec::new(alloc);
-    let mut lanes = Vec::new(alloc);
-    push_lanes(&mut lanes, &mut ends, &sorted)?;
-    Ok(lanes)
 }

@@ -12,11 +12,6 @@ const AFTER: &str =
 Exit status: 0 if there is a result, also if there is no match; 1 if the pattern or the search is refused; \
 2 if the command line or a file is invalid; 3 if a write failed.";
 
-const WHY: &str =
-    "Why there is no match: how much of the pattern matches, and what does not follow";
-
-const TRACE: &str = "Each step of the search, at most 1000 steps without --steps";
-
 const NODES: &str =
     "The syntax tree of the pattern, with what is known of each node, or the node that is refused";
 
@@ -95,188 +90,70 @@ enum Kind {
     File,
     /// A file that has to be named.
     RequiredFile,
-    Template,
+    Replacement,
+}
+
+use Kind::{Bytes, File, Flag, Number, Replacement, RequiredFile, Word};
+use Takes::{Lines, Pattern, Picture, Place, Rules, Run, Search, Template, Text, TextAlone};
+
+/// The rows of a table, each with its cells.
+macro_rules! table {
+    ($($($cell:expr),+;)*) => {
+        [$(($($cell),+)),*]
+    };
 }
 
 /// Each part: its name, what it takes, and what it is for.
-static PARTS: [(&str, Takes, &str); 11] = [
-    ("find", Takes::Place, "The first match and its groups"),
-    ("why", Takes::Place, WHY),
-    ("all", Takes::Text, "All matches, each marked in the text"),
-    (
-        "split",
-        Takes::Text,
-        "The pieces of the text between its matches",
-    ),
-    (
-        "replace",
-        Takes::Template,
-        "The text with its matches replaced",
-    ),
-    ("trace", Takes::Run, TRACE),
-    (
-        "list",
-        Takes::Pattern,
-        "The program of the pattern, instruction by instruction",
-    ),
-    ("tree", Takes::Pattern, NODES),
-    ("picture", Takes::Picture, PICTURE),
-    ("highlight", Takes::Rules, HIGHLIGHT),
-    ("batch", Takes::Lines, BATCH),
-];
+static PARTS: [(&str, Takes, &str); 13] = table! {
+    "find", Place, "The first match and its groups";
+    "why", Place, "Why there is no match: how much of the pattern matches, and what does not follow";
+    "all", Text, "All matches, each marked in the text";
+    "split", Text, "The pieces of the text between its matches";
+    "replace", Template, "The text with its matches replaced";
+    "trace", Run, "Each step of the search, at most 1000 steps without --steps";
+    "list", Pattern, "The program of the pattern, instruction by instruction";
+    "tree", Pattern, NODES;
+    "explain", Pattern, "The pattern in words, piece by piece";
+    "picture", Picture, PICTURE;
+    "page", Text, "A page of HTML: the pattern in words and as a diagram, its matches, its program";
+    "highlight", Rules, HIGHLIGHT;
+    "batch", Lines, BATCH;
+};
 
 /// Each argument: its name, the parts that take it, what is written, and what it says.
-static ARGUMENTS: [(&str, Takes, Kind, &str); 29] = [
-    ("PATTERN", Takes::Pattern, Kind::Word, "The pattern"),
-    (
-        "tree",
-        Takes::Pattern,
-        Kind::Flag,
-        "PATTERN is a tree, as (cat \"a\" (grp any))",
-    ),
-    (
-        "pattern-file",
-        Takes::Pattern,
-        Kind::File,
-        "Read the pattern from a file",
-    ),
-    (
-        "tree-file",
-        Takes::Pattern,
-        Kind::File,
-        "Read the tree from a file, in which line ends count as spaces",
-    ),
-    (
-        "compile-anchored",
-        Takes::Pattern,
-        Kind::Flag,
-        "Compile for matches where the search begins only",
-    ),
-    (
-        "not-empty",
-        Takes::Pattern,
-        Kind::Flag,
-        "Find no empty match",
-    ),
-    (
-        "end-text",
-        Takes::Pattern,
-        Kind::Flag,
-        "Find no empty match at the end of a text after a newline",
-    ),
-    (
-        "ascii",
-        Takes::Pattern,
-        Kind::Flag,
-        "Use ASCII for case folding, word characters and classes",
-    ),
-    (
-        "longest",
-        Takes::Pattern,
-        Kind::Flag,
-        "Find the longest of the matches at the earliest start",
-    ),
-    (
-        "max-prog",
-        Takes::Pattern,
-        Kind::Number,
-        "At most N instructions in the program [default: 1000000]",
-    ),
-    (
-        "analysis-limit",
-        Takes::Pattern,
-        Kind::Number,
-        "At most N nodes that the analysis looks at [default: 5000000]",
-    ),
-    (
-        "TEXT",
-        Takes::TextAlone,
-        Kind::Word,
-        "The text; standard input for - or if it is left out",
-    ),
-    (
-        "file",
-        Takes::TextAlone,
-        Kind::File,
-        "Read the text from a file, or from standard input for -",
-    ),
-    (
-        "anchored",
-        Takes::Text,
-        Kind::Flag,
-        "Match only where the search begins",
-    ),
-    (
-        "not-continued",
-        Takes::Text,
-        Kind::Flag,
-        "No earlier match ended where the search begins",
-    ),
-    ("backtracks", Takes::Text, Kind::Number, BACKTRACKS),
-    ("steps", Takes::Text, Kind::Number, STEPS),
-    (
-        "visits",
-        Takes::Search,
-        Kind::Number,
-        "At most N visits of states of easy parts in a search [default: 20000000]",
-    ),
-    (
-        "memory",
-        Takes::Search,
-        Kind::Bytes,
-        "At most BYTES that a search keeps for easy parts [default: 268435456]",
-    ),
-    (
-        "pos",
-        Takes::Place,
-        Kind::Number,
-        "Begin at this byte of the text",
-    ),
-    ("with", Takes::Template, Kind::Template, WITH),
-    (
-        "max-output",
-        Takes::Template,
-        Kind::Bytes,
-        "At most BYTES in the result [default: 268435456]",
-    ),
-    (
-        "dot",
-        Takes::Picture,
-        Kind::Flag,
-        "Write DOT in place of SVG",
-    ),
-    (
-        "railroad",
-        Takes::Picture,
-        Kind::Flag,
-        "Draw the pattern as a railroad diagram in place of the program",
-    ),
-    (
-        "rules",
-        Takes::Rules,
-        Kind::RequiredFile,
-        "The rules of the language, in JSON",
-    ),
-    ("html", Takes::Rules, Kind::Flag, "Write a page of HTML"),
-    (
-        "tokens",
-        Takes::Rules,
-        Kind::Flag,
-        "Write each token with the names of its scopes",
-    ),
-    (
-        "ansi",
-        Takes::Rules,
-        Kind::Flag,
-        "Write the colours of a terminal, whatever the output is",
-    ),
-    (
-        "FILE",
-        Takes::Lines,
-        Kind::Word,
-        "The file; standard input for - or if it is left out",
-    ),
-];
+static ARGUMENTS: [(&str, Takes, Kind, &str); 31] = table! {
+    "PATTERN", Pattern, Word, "The pattern";
+    "tree", Pattern, Flag, "PATTERN is a tree, as (cat \"a\" (grp any))";
+    "pattern-file", Pattern, File, "Read the pattern from a file";
+    "tree-file", Pattern, File, "Read the tree from a file, in which line ends count as spaces";
+    "compile-anchored", Pattern, Flag, "Compile for matches where the search begins only";
+    "not-empty", Pattern, Flag, "Find no empty match";
+    "end-text", Pattern, Flag, "Find no empty match at the end of a text after a newline";
+    "ascii", Pattern, Flag, "Use ASCII for case folding, word characters and classes";
+    "longest", Pattern, Flag, "Find the longest of the matches at the earliest start";
+    "max-prog", Pattern, Number, "At most N instructions in the program [default: 1000000]";
+    "analysis-limit", Pattern, Number, "At most N nodes that the analysis looks at [default: 5000000]";
+    "TEXT", TextAlone, Word, "The text; standard input for - or if it is left out";
+    "file", TextAlone, File, "Read the text from a file, or from standard input for -";
+    "anchored", Text, Flag, "Match only where the search begins";
+    "not-continued", Text, Flag, "No earlier match ended where the search begins";
+    "backtracks", Text, Number, BACKTRACKS;
+    "steps", Text, Number, STEPS;
+    "visits", Search, Number, "At most N visits of states of easy parts in a search [default: 20000000]";
+    "memory", Search, Bytes, "At most BYTES that a search keeps for easy parts [default: 268435456]";
+    "pos", Place, Number, "Begin at this byte of the text";
+    "with", Template, Replacement, WITH;
+    "max-output", Template, Bytes, "At most BYTES in the result [default: 268435456]";
+    "dot", Picture, Flag, "Write DOT in place of SVG";
+    "railroad", Picture, Flag, "Draw the pattern as a railroad diagram in place of the program";
+    "rules", Rules, RequiredFile, "The rules of the language, in JSON";
+    "grammars", Rules, File, "The folder of other grammars that the rules may include, each NAME.json";
+    "edited", Rules, File, "How many lines an editor asks for anew once the text is this file";
+    "html", Rules, Flag, "Write a page of HTML";
+    "tokens", Rules, Flag, "Write each token with the names of its scopes";
+    "ansi", Rules, Flag, "Write the colours of a terminal, whatever the output is";
+    "FILE", Lines, Word, "The file; standard input for - or if it is left out";
+};
 
 impl Kind {
     /// How the help names a value.
@@ -284,13 +161,13 @@ impl Kind {
         match self {
             Kind::Number => "N",
             Kind::Bytes => "BYTES",
-            Kind::Template => "TEMPLATE",
+            Kind::Replacement => "TEMPLATE",
             _ => "FILE",
         }
     }
 
     fn is_required(self) -> bool {
-        matches!(self, Kind::RequiredFile | Kind::Template)
+        matches!(self, Kind::RequiredFile | Kind::Replacement)
     }
 }
 
@@ -304,7 +181,7 @@ fn option<'a>(option: Arg<'a>, kind: Kind) -> Arg<'a> {
         _ => option
             .value_name(kind.value_name())
             .required(kind.is_required())
-            .allow_hyphen_values(matches!(kind, Kind::Template)),
+            .allow_hyphen_values(matches!(kind, Kind::Replacement)),
     }
 }
 

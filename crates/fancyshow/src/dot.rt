@@ -41,15 +41,10 @@ fn push_graph(
     for (place, insn) in prog.body().iter().enumerate() {
         push_node(alloc, out, place, insn)?;
     }
-    push_edges(out, arrows)?;
-    out.push_str("}\n")
-}
-
-fn push_edges(out: &mut String, arrows: &[Arrow]) -> Result<(), AllocError> {
     for arrow in arrows {
         push_edge(out, *arrow)?;
     }
-    Ok(())
+    out.push_str("}\n")
 }
 
 /// The program as a graph: an instruction a node, branches dashed.

@@ -3,36 +3,6 @@
 use std::alloc::AllocError;
 use unicode_width::UnicodeWidthChar;
 
-/// A line of a text: its number, from 1 on, and the byte of the text at which it begins.
-#[derive(Clone, Copy, Drop)]
-pub struct Line<'t> {
-    pub number: usize,
-    pub start: usize,
-    pub text: &'t str,
-}
-
-/// The line with this byte of the text, or the last one.
-pub fn line_at(text: &str, at: usize) -> Line<'_> {
-    let mut line = Line {
-        number: 0,
-        start: 0,
-        text: "",
-    };
-    let mut next = 0;
-    for piece in text.split('\n') {
-        if line.number > 0 && at < next {
-            break;
-        }
-        line = Line {
-            number: line.number.saturating_add(1),
-            start: next,
-            text: piece,
-        };
-        next = next.saturating_add(piece.len()).saturating_add(1);
-    }
-    line
-}
-
 /// How many columns the character takes as it is shown.
 pub fn columns(c: char) -> usize {
     c.width().unwrap_or(1)
@@ -103,10 +73,10 @@ fn dots(are_there: bool) -> &'static str {
 /// Writes the line with this byte of the text, and a caret below the byte, each after a line end. Of a long line only
 /// what is around the place is written.
 pub fn push_excerpt(out: &mut String, text: &str, at: usize) -> Result<(), AllocError> {
-    let line = line_at(text, at);
-    let place = at.saturating_sub(line.start);
-    let (before, more_before) = tail(line.text.get(..place).unwrap_or(""), BEFORE);
-    let (behind, more_behind) = head(line.text.get(place..).unwrap_or(""), BEHIND);
+    let before = text.get(..at).unwrap_or(text).split('\n').last();
+    let behind = text.get(at..).unwrap_or("").split('\n').next();
+    let (before, more_before) = tail(before.unwrap_or(""), BEFORE);
+    let (behind, more_behind) = head(behind.unwrap_or(""), BEHIND);
     let first = dots(more_before);
     out.push_str("\n  ")?;
     out.push_str(first)?;

@@ -49,27 +49,19 @@ impl Furthest {
         self.at.saturating_sub(self.start)
     }
 
-    fn is_at(&self, start: usize, at: usize) -> bool {
-        start == self.start && at == self.at
-    }
-
-    /// Whether an attempt that began at `start` gets further in the tree, or as far and matches more, or as much and fails at
-    /// a later leaf.
-    fn is_passed_by(&self, start: usize, leaf: Leaf) -> bool {
-        let len = leaf.at.saturating_sub(start);
-        (leaf.depth, len, leaf.mark) > (self.depth, self.len(), self.last)
-    }
-
-    /// A leaf fails at this place, in an attempt that began at `start`.
+    /// A leaf fails at this place, in an attempt that began at `start`. It is further than those before if it is further in
+    /// the tree, or as far and its attempt matches more, or as much and it is a later leaf.
     fn add(&mut self, start: usize, leaf: Leaf) {
-        if !self.is_at(start, leaf.at) && self.is_passed_by(start, leaf) {
-            self.count = 0;
-            self.last = 0;
-            self.start = start;
-            self.at = leaf.at;
-            self.depth = leaf.depth;
+        let is_there = start == self.start && leaf.at == self.at;
+        let len = leaf.at.saturating_sub(start);
+        let is_further = (leaf.depth, len, leaf.mark) > (self.depth, self.len(), self.last);
+        if is_further && !is_there {
+            *self = Furthest {
+                at: leaf.at,
+                ..Furthest::at_start(start)
+            };
         }
-        if self.is_at(start, leaf.at) && !self.wanted().contains(&leaf.mark) {
+        if (is_further || is_there) && !self.wanted().contains(&leaf.mark) {
             self.add_leaf(leaf);
         }
     }

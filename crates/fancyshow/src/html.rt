@@ -36,7 +36,7 @@ pub const FOOT: &str = "</pre>
 ";
 
 /// Writes a part of the text as HTML has it.
-fn push_escaped(out: &mut String, text: &str) -> Result<(), AllocError> {
+pub fn push_escaped(out: &mut String, text: &str) -> Result<(), AllocError> {
     for c in text.chars() {
         match c {
             '<' => out.push_str("&lt;")?,

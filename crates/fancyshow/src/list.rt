@@ -93,8 +93,9 @@ fn push_list(alloc: Global, out: &mut String, shown: &Shown) -> Result<(), Alloc
 }
 
 /// How many instructions the program has, what its first slots hold, and each instruction after its place.
-pub fn list(alloc: Global, shown: &Shown) -> Result<String, AllocError> {
+pub fn list(alloc: Global, request: &Request) -> Result<String, Trouble> {
+    let shown = program(alloc, request)?;
     let mut out = String::new(alloc);
-    push_list(alloc, &mut out, shown)?;
+    push_list(alloc, &mut out, &shown)?;
     Ok(out)
 }

@@ -6,7 +6,6 @@
 use crate::nodes::{has_brackets, push_head, push_unquoted};
 use fancy_expr::expr::{Absent, Expr};
 use fancy_expr::parts::{part, part_count};
-use fancy_faults::leaves::is_plain;
 use fancy_vm::vm::{Insn, Prog};
 use std::alloc::{AllocError, Global};
 
@@ -16,17 +15,12 @@ const FIRST: usize = 0xf0000;
 /// How many leaves have marks.
 const MOST_LEAVES: usize = 50_000;
 
-/// How deep the nodes are that are written.
-const MOST_LEVELS: usize = 1_010;
-
-/// A node that has a mark, and which leaves of the tree it is or has below it: from this one up to another, counted without
-/// those that are empty. Its depth is how many nodes with marks are on the way to it from the tree's start: of the
-/// alternatives that are passed, the longest counts.
+/// A node that has a mark, and its index among the nodes of the tree. Its depth is how many nodes with marks are on the way
+/// to it from the tree's start: of the alternatives that are passed, the longest counts.
 #[derive(Clone, Copy)]
 pub struct MarkedLeaf<'e> {
     pub expr: &'e Expr,
-    pub first: usize,
-    pub end: usize,
+    pub index: usize,
     pub depth: usize,
 }
 
@@ -35,8 +29,8 @@ pub struct MarkedLeaf<'e> {
 pub struct Marked<'e> {
     pub text: String,
     pub leaves: Vec<MarkedLeaf<'e>>,
-    /// How many leaves are written that are not empty.
-    pub passed: usize,
+    /// How many nodes are written.
+    passed: usize,
     /// The depth of the next node with a mark.
     depth: usize,
 }
@@ -64,7 +58,7 @@ fn has_alternatives(expr: &Expr) -> bool {
 }
 
 /// The characters of a child that follows a literal of a sequence, and is one that is folded alike.
-fn joined(expr: &Expr, i: usize) -> Option<&str> {
+pub fn joined_text(expr: &Expr, i: usize) -> Option<&str> {
     let Expr::Concat(parts) = expr else {
         return None;
     };
@@ -86,13 +80,6 @@ impl<'e> Marked<'e> {
         }
     }
 
-    /// Counts the node, if it is a leaf that is not empty.
-    fn count(&mut self, expr: &Expr) {
-        if is_plain(expr) {
-            self.passed = self.passed.saturating_add(1);
-        }
-    }
-
     fn push_mark(&mut self, number: usize) -> Result<(), AllocError> {
         let code = FIRST.saturating_add(number);
         let text = &mut self.text;
@@ -103,8 +90,7 @@ impl<'e> Marked<'e> {
     fn add_leaf(&mut self, expr: &'e Expr) -> Result<usize, AllocError> {
         self.leaves.push(MarkedLeaf {
             expr,
-            first: self.passed,
-            end: self.passed,
+            index: self.passed,
             depth: self.depth,
         })?;
         self.depth = self.depth.saturating_add(1);
@@ -130,18 +116,10 @@ impl<'e> Marked<'e> {
         }
     }
 
-    /// Writes the node and those below it, with marks where they are needed. Beyond this many levels nothing is written.
-    fn push_node(
-        &mut self,
-        expr: &'e Expr,
-        has_marks: bool,
-        levels: usize,
-    ) -> Result<(), AllocError> {
-        if levels == 0 {
-            return Ok(());
-        }
+    /// Writes the node and those below it, with marks where they are needed.
+    fn push_node(&mut self, expr: &'e Expr, has_marks: bool) -> Result<(), AllocError> {
         let is_open = has_marks && self.open(expr)?;
-        self.count(expr);
+        self.passed = self.passed.saturating_add(1);
         push_head(&mut self.text, expr)?;
         let start = self.depth;
         let mut deepest = start;
@@ -151,7 +129,7 @@ impl<'e> Marked<'e> {
             }
             self.text.push(' ')?;
             let below = has_marks && has_marks_below(expr, i);
-            self.push_node(part(expr, i), below, levels - 1)?;
+            self.push_node(part(expr, i), below)?;
             deepest = deepest.max(self.depth);
             self.depth = if has_alternatives(expr) {
                 start
@@ -165,7 +143,7 @@ impl<'e> Marked<'e> {
 
     /// Writes the child between the quotes of the one before it, where both are literals that are folded alike.
     fn join(&mut self, expr: &Expr, i: usize) -> Result<bool, AllocError> {
-        let Some(text) = joined(expr, i) else {
+        let Some(text) = joined_text(expr, i) else {
             return Ok(false);
         };
         self.passed = self.passed.saturating_add(1);
@@ -181,25 +159,15 @@ impl<'e> Marked<'e> {
             self.text.push(')')?;
         }
         if is_open {
-            self.end_leaf(expr);
             self.text.push(')')?;
         }
         Ok(())
     }
 
-    /// The node with the newest mark, if this is one, has no further leaves.
-    fn end_leaf(&mut self, expr: &Expr) {
-        if is_leaf(expr) {
-            if let Some(leaf) = self.leaves.last_mut() {
-                leaf.end = self.passed;
-            }
-        }
-    }
-
     /// Writes the whole tree with marks, and mark 0 after it.
     pub fn push_tree(&mut self, expr: &'e Expr) -> Result<(), AllocError> {
         self.text.push_str("(cat ")?;
-        self.push_node(expr, true, MOST_LEVELS)?;
+        self.push_node(expr, true)?;
         self.text.push(' ')?;
         self.push_mark(0)?;
         self.text.push(')')
@@ -209,7 +177,7 @@ impl<'e> Marked<'e> {
 /// The node and those below it in the notation.
 pub fn notation(alloc: Global, expr: &Expr) -> Result<String, AllocError> {
     let mut written = Marked::new(alloc);
-    written.push_node(expr, false, MOST_LEVELS)?;
+    written.push_node(expr, false)?;
     Ok(written.text)
 }
 

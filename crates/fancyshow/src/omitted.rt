@@ -21,38 +21,36 @@ fn push_break(out: &mut String) -> Result<(), AllocError> {
     }
 }
 
-/// Writes that a rule of this file is left out, and why.
-fn push_warning(
-    out: &mut String,
-    file: &str,
-    rule: &LeftOut,
-    in_text: bool,
-) -> Result<(), AllocError> {
+/// Writes that a rule of this file is left out, from which byte on, and why.
+fn push_warning(out: &mut String, file: &str, rule: &LeftOut) -> Result<(), AllocError> {
     push_break(out)?;
     write!(out, "{file}: {}", rule.path.as_str())?;
     push_name(out, rule.name.as_str())?;
-    write!(out, ": {}; the rule is left out", rule.error)?;
-    push_place(out, rule.at, in_text)
-}
-
-/// Writes from which byte on a rule is left out, if it is so from one on.
-fn push_place(out: &mut String, at: usize, in_text: bool) -> Result<(), AllocError> {
-    if in_text {
-        write!(out, " from byte {at} on")
-    } else {
-        Ok(())
-    }
+    let at = rule.at;
+    write!(
+        out,
+        ": {}; the rule is left out from byte {at} on",
+        rule.error
+    )
 }
 
 /// Writes that each of these rules is left out.
-pub fn push_warnings(
-    out: &mut String,
-    file: &str,
-    rules: &[LeftOut],
-    in_text: bool,
-) -> Result<(), AllocError> {
+pub fn push_warnings(out: &mut String, file: &str, rules: &[LeftOut]) -> Result<(), AllocError> {
     for rule in rules {
-        push_warning(out, file, rule, in_text)?;
+        push_warning(out, file, rule)?;
+    }
+    Ok(())
+}
+
+/// Writes that each of these includes names nothing.
+pub fn push_missing(out: &mut String, file: &str, includes: &[String]) -> Result<(), AllocError> {
+    for include in includes {
+        push_break(out)?;
+        write!(
+            out,
+            "{file}: there is no {}; what includes it does without",
+            include.as_str()
+        )?;
     }
     Ok(())
 }

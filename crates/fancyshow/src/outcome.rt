@@ -49,50 +49,30 @@ impl<T: Drop> From<AllocFailed<T>> for Trouble {
 }
 
 impl Outcome {
-    fn answered(alloc: Global, out: String) -> Outcome {
-        Outcome {
-            out,
-            err: String::new(alloc),
-            status: 0,
-        }
-    }
-
-    fn failed(alloc: Global, err: String, status: u8) -> Outcome {
-        Outcome {
-            out: String::new(alloc),
-            err,
-            status,
-        }
+    fn new(out: String, err: String, status: u8) -> Outcome {
+        Outcome { out, err, status }
     }
 
     /// An error with this text.
     fn refused(alloc: Global, why: &str, status: u8) -> Result<Outcome, AllocError> {
         let err = format!(in alloc; "error: {why}\n")?;
-        Ok(Outcome::failed(alloc, err, status))
+        Ok(Outcome::new(String::new(alloc), err, status))
     }
 
     /// An answer with this warning.
     fn warned(alloc: Global, out: String, warning: &str) -> Result<Outcome, AllocError> {
         let err = format!(in alloc; "warning: {warning}\n")?;
-        Ok(Outcome {
-            out,
-            err,
-            status: 0,
-        })
+        Ok(Outcome::new(out, err, 0))
     }
 
     /// What the trouble gives.
     fn of_trouble(alloc: Global, trouble: Trouble) -> Result<Outcome, AllocError> {
         match trouble {
-            Trouble::Help(out) => Ok(Outcome::answered(alloc, out)),
-            Trouble::Usage(err) => Ok(Outcome::failed(alloc, err, 2)),
+            Trouble::Help(out) => Ok(Outcome::new(out, String::new(alloc), 0)),
+            Trouble::Usage(err) => Ok(Outcome::new(String::new(alloc), err, 2)),
             Trouble::Words(why) => Outcome::refused(alloc, why.as_str(), 2),
             Trouble::Refusal(why) => Outcome::refused(alloc, why.as_str(), 1),
-            Trouble::Refused(out) => Ok(Outcome {
-                out,
-                err: String::new(alloc),
-                status: 1,
-            }),
+            Trouble::Refused(out) => Ok(Outcome::new(out, String::new(alloc), 1)),
             Trouble::Warned { out, warning } => Outcome::warned(alloc, out, warning.as_str()),
             Trouble::Memory => Outcome::refused(alloc, "out of memory", 1),
         }
@@ -101,7 +81,7 @@ impl Outcome {
     /// What an answer, or the trouble that there was, gives.
     pub fn of(alloc: Global, answer: Result<String, Trouble>) -> Result<Outcome, AllocError> {
         match answer {
-            Ok(out) => Ok(Outcome::answered(alloc, out)),
+            Ok(out) => Ok(Outcome::new(out, String::new(alloc), 0)),
             Err(trouble) => Outcome::of_trouble(alloc, trouble),
         }
     }

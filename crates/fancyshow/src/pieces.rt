@@ -2,7 +2,7 @@
 
 use crate::find::{Searcher, searcher_of};
 use crate::outcome::Trouble;
-use crate::refusals::over_output_limit;
+use crate::refusals::{OVER_OUTPUT_LIMIT, over_limit};
 use crate::request::Request;
 use fancy_expr::error::Error;
 use fancy_replace::output::BoundedText;
@@ -95,7 +95,7 @@ fn replaced_text(
     let mut searcher = searcher_of(alloc, request)?;
     match replaced_by(alloc, &mut searcher, text, replacement) {
         Ok(Some(out)) => Ok(out),
-        Ok(None) => Err(over_output_limit(alloc)?),
+        Ok(None) => Err(over_limit(alloc, OVER_OUTPUT_LIMIT)?),
         Err(error) => Err(searcher.refusal(alloc, request, &error)),
     }
 }

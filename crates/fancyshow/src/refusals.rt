@@ -129,17 +129,14 @@ pub fn too_large(alloc: Global, what: &str, most: usize, of: &str) -> Result<Tro
     )?))
 }
 
-/// The trouble of a tree whose analysis exceeds its limit.
-pub fn over_analysis_limit(alloc: Global) -> Result<Trouble, AllocError> {
-    let why =
-        "the analysis of the pattern exceeds its limit (AnalysisLimitExceeded)\n  --analysis-limit N allows more";
-    Ok(Trouble::Refusal(String::from_str(alloc, why)?))
-}
+pub const OVER_ANALYSIS_LIMIT: &str =
+    "the analysis of the pattern exceeds its limit (AnalysisLimitExceeded)\n  --analysis-limit N allows more";
 
-/// The trouble of a text that exceeds its limit once its matches are replaced.
-pub fn over_output_limit(alloc: Global) -> Result<Trouble, AllocError> {
-    let why =
-        "the result exceeds the output limit (OutputLimitExceeded)\n  --max-output BYTES allows more";
+pub const OVER_OUTPUT_LIMIT: &str =
+    "the result exceeds the output limit (OutputLimitExceeded)\n  --max-output BYTES allows more";
+
+/// The trouble of what exceeds a limit, with this text.
+pub fn over_limit(alloc: Global, why: &str) -> Result<Trouble, AllocError> {
     Ok(Trouble::Refusal(String::from_str(alloc, why)?))
 }
 

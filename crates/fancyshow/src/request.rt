@@ -87,39 +87,13 @@ fn on_one_line(alloc: Global, text: &str) -> Result<String, AllocError> {
     Ok(line)
 }
 
+const NO_PATTERN: &str =
+    "there is no pattern: expected PATTERN, --pattern-file FILE or --tree-file FILE";
+
+const TWICE: &str = "the pattern is given twice, in a file and as a word";
+
 fn missing(alloc: Global, what: &str) -> Result<Trouble, AllocError> {
     Ok(Trouble::Words(String::from_str(alloc, what)?))
-}
-
-/// The first word, which is the pattern or the tree.
-fn source<'a>(
-    rt: &HostRuntime,
-    matches: &ArgMatches<'a>,
-    second: Option<&'a str>,
-) -> Result<(String, Option<&'a str>), Trouble> {
-    match matches.get_str("PATTERN") {
-        Some(word) => Ok((String::from_str(rt.alloc(), word)?, second)),
-        None => Err(missing(
-            rt.alloc(),
-            "there is no pattern: expected PATTERN, --pattern-file FILE or --tree-file FILE",
-        )?),
-    }
-}
-
-/// The source out of a file, and the word that is left for the text: the first, where there is no second.
-fn source_file<'a>(
-    rt: &HostRuntime,
-    matches: &ArgMatches<'a>,
-    second: Option<&'a str>,
-    path: &str,
-) -> Result<(String, Option<&'a str>), Trouble> {
-    match second {
-        Some(_) => Err(missing(
-            rt.alloc(),
-            "the pattern is given twice, in a file and as a word",
-        )?),
-        None => Ok((read_file(rt, path)?, matches.get_str("PATTERN"))),
-    }
 }
 
 /// The source as it is in a file or a word, and the word that is left for the text.
@@ -127,13 +101,15 @@ fn read_source<'a>(
     rt: &HostRuntime,
     matches: &ArgMatches<'a>,
 ) -> Result<(String, Option<&'a str>), Trouble> {
-    let second = matches.get_str("TEXT");
+    let (first, second) = (matches.get_str("PATTERN"), matches.get_str("TEXT"));
     let file = matches
         .get_str("tree-file")
         .or(matches.get_str("pattern-file"));
-    match file {
-        Some(path) => source_file(rt, matches, second, path),
-        None => source(rt, matches, second),
+    match (file, first, second) {
+        (Some(_), _, Some(_)) => Err(missing(rt.alloc(), TWICE)?),
+        (Some(path), word, None) => Ok((read_file(rt, path)?, word)),
+        (None, Some(word), _) => Ok((String::from_str(rt.alloc(), word)?, second)),
+        (None, None, _) => Err(missing(rt.alloc(), NO_PATTERN)?),
     }
 }
 
@@ -165,7 +141,12 @@ fn read_request<'a>(
     Ok((request, word))
 }
 
-fn text(rt: &HostRuntime, matches: &ArgMatches<'_>, word: Option<&str>) -> Result<String, Trouble> {
+/// The text that a word or a file gives, if there is one.
+fn given_text(
+    rt: &HostRuntime,
+    matches: &ArgMatches<'_>,
+    word: Option<&str>,
+) -> Result<Option<String>, Trouble> {
     match (matches.get_str("file"), word) {
         (Some(_), Some(_)) => {
             Err(missing(
@@ -173,16 +154,19 @@ fn text(rt: &HostRuntime, matches: &ArgMatches<'_>, word: Option<&str>) -> Resul
                 "the text is given twice, in a file and as a word",
             )?)
         }
-        (Some(path), None) => read_file(rt, path),
-        (None, Some("-")) => read_input(rt),
-        (None, Some(word)) => Ok(String::from_str(rt.alloc(), word)?),
-        (None, None) => read_input(rt),
+        (Some(path), None) => Ok(Some(read_file(rt, path)?)),
+        (None, Some("-")) => Ok(Some(read_input(rt)?)),
+        (None, Some(word)) => Ok(Some(String::from_str(rt.alloc(), word)?)),
+        (None, None) => Ok(None),
     }
 }
 
 /// A text that no pattern is beside.
 pub fn text_alone(rt: &HostRuntime, matches: &ArgMatches<'_>) -> Result<String, Trouble> {
-    text(rt, matches, matches.get_str("TEXT"))
+    match given_text(rt, matches, matches.get_str("TEXT"))? {
+        Some(text) => Ok(text),
+        None => read_input(rt),
+    }
 }
 
 fn arguments(matches: &ArgMatches<'_>) -> Arguments {
@@ -223,11 +207,18 @@ pub fn output_limit(matches: &ArgMatches<'_>) -> usize {
 pub fn tree_request(rt: &HostRuntime, matches: &ArgMatches<'_>) -> Result<Request, Trouble> {
     match read_request(rt, matches)? {
         (request, None) => Ok(request),
-        (_, Some(_)) => Err(missing(
-            rt.alloc(),
-            "the pattern is given twice, in a file and as a word",
-        )?),
+        (_, Some(_)) => Err(missing(rt.alloc(), TWICE)?),
     }
+}
+
+/// What is asked of a pattern or a tree, and a text if one is given.
+pub fn page_request(
+    rt: &HostRuntime,
+    matches: &ArgMatches<'_>,
+) -> Result<(Request, Option<String>), Trouble> {
+    let (request, word) = read_request(rt, matches)?;
+    let text = given_text(rt, matches, word)?;
+    Ok((request, text))
 }
 
 /// What is asked of a pattern or a tree and a text, and the text.
@@ -235,7 +226,8 @@ pub fn text_request(
     rt: &HostRuntime,
     matches: &ArgMatches<'_>,
 ) -> Result<(Request, String), Trouble> {
-    let (request, word) = read_request(rt, matches)?;
-    let text = text(rt, matches, word)?;
-    Ok((request, text))
+    match page_request(rt, matches)? {
+        (request, Some(text)) => Ok((request, text)),
+        (request, None) => Ok((request, read_input(rt)?)),
+    }
 }

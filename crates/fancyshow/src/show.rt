@@ -4,14 +4,18 @@ use crate::all::all;
 use crate::batch::{push_outcome, words_of};
 use crate::commands::command;
 use crate::dot::dot;
+use crate::explain::explain;
 use crate::find::find;
 use crate::highlight::highlight;
 use crate::list::{Shown, list, program};
 use crate::outcome::{Outcome, Trouble};
+use crate::page::page;
 use crate::pieces::{Replacement, pieces, replaced};
 use crate::railroad::railroad;
 use crate::refusals::too_large;
-use crate::request::{Request, output_limit, read_file, read_input, text_request, tree_request};
+use crate::request::{
+    Request, output_limit, page_request, read_file, read_input, text_request, tree_request,
+};
 use crate::svg::{MOST_BOXES, svg};
 use crate::trace::trace;
 use crate::tree::tree;
@@ -37,32 +41,9 @@ fn told(alloc: Global, error: &clap::Error) -> Result<Trouble, AllocError> {
     })
 }
 
-/// How a picture is asked for.
-#[derive(Clone, Copy)]
-struct Drawn {
-    as_dot: bool,
-    as_railroad: bool,
-}
-
-fn drawing_of(matches: &ArgMatches<'_>) -> Drawn {
-    Drawn {
-        as_dot: matches.get_flag("dot"),
-        as_railroad: matches.get_flag("railroad"),
-    }
-}
-
-/// The answer of a part that asks of a program.
-fn program_answer(
-    alloc: Global,
-    part: &str,
-    request: &Request,
-    shown: &Shown,
-    is_dot: bool,
-) -> Result<String, Trouble> {
-    if part == "list" {
-        return Ok(list(alloc, shown)?);
-    }
-    let prog = &shown.prog;
+/// The program as a picture.
+fn picture(alloc: Global, request: &Request, is_dot: bool) -> Result<String, Trouble> {
+    let Shown { prog, .. } = &program(alloc, request)?;
     if prog.body().len() > MOST_BOXES {
         return Err(too_large(alloc, "program", MOST_BOXES, "instructions")?);
     }
@@ -72,40 +53,6 @@ fn program_answer(
     Ok(svg(alloc, prog, request.source.as_str())?)
 }
 
-/// The answer of a part that asks of a tree alone.
-fn tree_answer(
-    alloc: Global,
-    part: &str,
-    request: &Request,
-    drawn: Drawn,
-) -> Result<String, Trouble> {
-    if part == "tree" {
-        return tree(alloc, request);
-    }
-    if drawn.as_railroad {
-        return railroad(alloc, request);
-    }
-    let shown = program(alloc, request)?;
-    program_answer(alloc, part, request, &shown, drawn.as_dot)
-}
-
-/// The answer of a part that asks of a tree and a text.
-fn text_answer(
-    alloc: Global,
-    part: &str,
-    request: &Request,
-    text: &str,
-    colours: bool,
-) -> Result<String, Trouble> {
-    match part {
-        "find" => find(alloc, request, text),
-        "all" => all(alloc, request, text, colours),
-        "why" => why(alloc, request, text),
-        "trace" => trace(alloc, request, text),
-        _ => pieces(alloc, request, text),
-    }
-}
-
 /// Reads what is asked of a tree, and answers it.
 fn answer_of_tree(
     rt: &HostRuntime,
@@ -113,7 +60,13 @@ fn answer_of_tree(
     matches: &ArgMatches<'_>,
 ) -> Result<String, Trouble> {
     let request = tree_request(rt, matches)?;
-    tree_answer(rt.alloc(), part, &request, drawing_of(matches))
+    match part {
+        "list" => list(rt.alloc(), &request),
+        "tree" => tree(rt.alloc(), &request),
+        "explain" => explain(rt.alloc(), &request),
+        _ if matches.get_flag("railroad") => railroad(rt.alloc(), &request),
+        _ => picture(rt.alloc(), &request, matches.get_flag("dot")),
+    }
 }
 
 /// Reads what is asked of a tree and a text, and answers it.
@@ -124,7 +77,22 @@ fn answer_of_text(
     colours: bool,
 ) -> Result<String, Trouble> {
     let (request, text) = text_request(rt, matches)?;
-    text_answer(rt.alloc(), part, &request, text.as_str(), colours)
+    let text = text.as_str();
+    match part {
+        "find" => find(rt.alloc(), &request, text),
+        "all" => all(rt.alloc(), &request, text, colours),
+        "why" => why(rt.alloc(), &request, text),
+        "trace" => trace(rt.alloc(), &request, text),
+        _ => pieces(rt.alloc(), &request, text),
+    }
+}
+
+/// Reads what a page is asked for, and writes it.
+fn page_answer(rt: &HostRuntime, matches: &ArgMatches<'_>) -> Result<String, Trouble> {
+    match page_request(rt, matches)? {
+        (request, Some(text)) => page(rt.alloc(), &request, Some(text.as_str())),
+        (request, None) => page(rt.alloc(), &request, None),
+    }
 }
 
 /// Reads what is to be replaced, and by what, and replaces it.
@@ -151,8 +119,9 @@ fn answer(
     colours: bool,
 ) -> Result<String, Trouble> {
     match part {
-        "list" | "tree" | "picture" => answer_of_tree(rt, part, matches),
+        "list" | "tree" | "explain" | "picture" => answer_of_tree(rt, part, matches),
         "replace" => replacement(rt, matches),
+        "page" => page_answer(rt, matches),
         "highlight" => highlight(rt, matches, colours),
         "batch" => nested_batch(rt.alloc()),
         _ => answer_of_text(rt, part, matches, colours),

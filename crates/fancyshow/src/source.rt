@@ -4,7 +4,7 @@ ghost use Rattle.std.specs.Prelude.{IfOk};
 ghost use Rattle.fancy_expr.specs.Sound.{IsWellFormedTree};
 
 use crate::outcome::Trouble;
-use crate::refusals::{over_analysis_limit, pattern_refusal, refusal, too_deep};
+use crate::refusals::{OVER_ANALYSIS_LIMIT, over_limit, pattern_refusal, refusal, too_deep};
 use crate::request::Request;
 use fancy_analysis::limit::is_analysis_within;
 use fancy_command::command::MOST_DEPTH;
@@ -30,7 +30,7 @@ pub fn read(alloc: Global, request: &Request) -> Result<ExprTree, Trouble>
     if is_analysis_within(alloc, &tree, request.analysis_limit)? {
         Ok(tree)
     } else {
-        Err(over_analysis_limit(alloc)?)
+        Err(over_limit(alloc, OVER_ANALYSIS_LIMIT)?)
     }
 }
 

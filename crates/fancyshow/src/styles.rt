@@ -1,6 +1,5 @@
 //! How tokens look, by the names of their scopes.
 
-use fancy_highlight::highlighter::Highlighter;
 use fancy_highlight::scopes::{Scope, Scopes};
 use std::alloc::{AllocError, Global};
 
@@ -146,8 +145,8 @@ pub fn style_at(styles: &[Option<Style>], scope: usize) -> Option<Style> {
 }
 
 /// The style of a scope: that of its own name, or else that of the scope around it.
-fn style_of(highlighter: &Highlighter, styles: &[Option<Style>], scope: Scope) -> Option<Style> {
-    let own = match highlighter.name(scope.name) {
+fn style_of(scopes: &Scopes, styles: &[Option<Style>], scope: Scope) -> Option<Style> {
+    let own = match scopes.name(scope.name) {
         Some(name) => style_of_name(name),
         None => None,
     };
@@ -158,14 +157,10 @@ fn style_of(highlighter: &Highlighter, styles: &[Option<Style>], scope: Scope) -
 }
 
 /// The style of each scope, by its number.
-pub fn styles_of(
-    alloc: Global,
-    highlighter: &Highlighter,
-    scopes: &Scopes,
-) -> Result<Vec<Option<Style>>, AllocError> {
+pub fn styles_of(alloc: Global, scopes: &Scopes) -> Result<Vec<Option<Style>>, AllocError> {
     let mut styles = Vec::new(alloc);
     for scope in scopes.as_slice() {
-        let style = style_of(highlighter, &styles, *scope);
+        let style = style_of(scopes, &styles, *scope);
         styles.push(style)?;
     }
     Ok(styles)

@@ -1,25 +1,19 @@
 //! The tokens of a text, one on a line.
 
 use crate::outcome::Trouble;
-use fancy_highlight::highlighter::Highlighter;
 use fancy_highlight::scopes::Scopes;
 use fancy_highlight::tokens::{Highlights, Token};
 use std::alloc::{AllocError, Global};
 
 /// The names of a scope, the innermost first.
-fn names<'h>(
-    alloc: Global,
-    highlighter: &'h Highlighter,
-    scopes: &Scopes,
-    scope: usize,
-) -> Result<Vec<&'h str>, AllocError> {
+fn names<'s>(alloc: Global, scopes: &'s Scopes, scope: usize) -> Result<Vec<&'s str>, AllocError> {
     let mut names = Vec::new(alloc);
     let mut numbers = scopes.names(scope);
     for _ in 0..usize::MAX {
         let Some(number) = numbers.next_out() else {
             break;
         };
-        if let Some(name) = highlighter.name(number) {
+        if let Some(name) = scopes.name(number) {
             names.push(name)?;
         }
     }
@@ -56,13 +50,13 @@ fn push_token(
 pub fn push_tokens(
     out: &mut String,
     alloc: Global,
-    highlighter: &Highlighter,
+    scopes: &Scopes,
     highlights: &Highlights,
     text: &str,
 ) -> Result<(), Trouble> {
     for token in &highlights.tokens {
         let part = text.get(token.start..token.end).unwrap_or("");
-        let names = names(alloc, highlighter, &highlights.scopes, token.scope)?;
+        let names = names(alloc, scopes, token.scope)?;
         push_token(out, *token, part, &names)?;
         if out.len() > MOST_BYTES {
             return Err(too_long(alloc, token.start)?);

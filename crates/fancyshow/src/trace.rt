@@ -42,61 +42,22 @@ struct Run<'r> {
     text: &'r str,
 }
 
-/// Where a stepper is: the instruction that is next, and what was done before.
-#[derive(Clone, Copy)]
-struct Snapshot {
-    steps: u64,
-    /// The byte of the text.
-    at: usize,
-    branches: usize,
-    backtracks: usize,
-    /// The number of the instruction.
-    place: usize,
-}
-
-impl Snapshot {
-    fn of(stepper: &Stepper<'_>) -> Snapshot {
-        Snapshot {
-            steps: stepper.steps(),
-            at: stepper.ix(),
-            branches: stepper.branches(),
-            backtracks: stepper.backtracks(),
-            place: stepper.pc(),
-        }
-    }
-}
-
 /// Writes how far a run has come in the text.
-fn push_progress(out: &mut String, text: &str, snapshot: Snapshot) -> Result<(), AllocError> {
-    let Snapshot { steps, at, .. } = snapshot;
+fn push_progress(out: &mut String, text: &str, stepper: &Stepper<'_>) -> Result<(), AllocError> {
+    let (steps, at) = (stepper.steps(), stepper.ix());
     write!(out, "{steps:>8}  {at:>6}  ")?;
     push_around(out, text, at)
 }
 
-/// Writes where a stepper is, but for the instruction.
-fn push_snapshot(out: &mut String, text: &str, snapshot: Snapshot) -> Result<(), AllocError> {
-    push_progress(out, text, snapshot)?;
-    let Snapshot {
-        branches,
-        backtracks,
-        place,
-        ..
-    } = snapshot;
-    write!(out, "  {branches:>8}  {backtracks:>10}  {place} ")
-}
-
-/// Writes the instruction with this number, and ends the line.
-fn push_next(out: &mut String, run: Run<'_>, place: usize) -> Result<(), AllocError> {
+/// Writes where a stepper is, on a line: what was done before, and the instruction that is next.
+fn push_step(out: &mut String, run: Run<'_>, stepper: &Stepper<'_>) -> Result<(), AllocError> {
+    push_progress(out, run.text, stepper)?;
+    let (branches, backtracks, place) = (stepper.branches(), stepper.backtracks(), stepper.pc());
+    write!(out, "  {branches:>8}  {backtracks:>10}  {place} ")?;
     if let Some(insn) = run.shown.prog.body().get(place) {
         push_noted(run.alloc, out, insn, &run.shown.groups)?;
     }
     out.push('\n')
-}
-
-/// Writes where a stepper is, on a line.
-fn push_step(out: &mut String, run: Run<'_>, snapshot: Snapshot) -> Result<(), AllocError> {
-    push_snapshot(out, run.text, snapshot)?;
-    push_next(out, run, snapshot.place)
 }
 
 /// Writes where a group stands and what it takes, if it is set.
@@ -160,7 +121,7 @@ fn push_steps(
     out.push_str(HEAD)?;
     let mut stepper = stepper;
     for _ in 0..=most {
-        push_step(out, run, Snapshot::of(&stepper))?;
+        push_step(out, run, &stepper)?;
         match stepper.step() {
             Ok(Progress::GoesOn(further)) => stepper = further,
             Ok(Progress::Ends(found)) => {

@@ -25,63 +25,26 @@ struct Part {
 
 const TREE: &str = "a tree, which is a word, a quoted text or a form in parentheses";
 
-const CLOSE: &str = "a closing parenthesis";
-
-const TREE_OR_CLOSE: &str = "a tree, or a closing parenthesis";
-
-const NUMBER: &str = "a number";
-
 const QUOTE: &str = "a quote that ends the text";
 
 const ESCAPE: &str =
     "one of the escapes \\\" \\\\ \\n \\r and \\u{..} with the number of a character";
 
-const WORD: &str = "a word that begins a form, as cat, alt, grp, rep or set";
-
-fn one_tree(count: usize) -> &'static str {
-    if count == 0 { TREE } else { CLOSE }
-}
-
-/// This many trees.
-fn trees(count: usize, wanted: usize) -> &'static str {
-    if count < wanted { TREE } else { CLOSE }
-}
-
-fn of_loop(count: usize) -> &'static str {
-    match count {
-        0 => "a number, the least count",
-        1 => "a number that is not less, or *, the greatest count",
-        2 => TREE,
-        _ => CLOSE,
-    }
-}
-
-fn of_word(count: usize, word: &'static str) -> &'static str {
-    if count == 0 { word } else { CLOSE }
-}
-
-fn of_level(count: usize) -> &'static str {
-    match count {
-        0 => NUMBER,
-        1 => "a level, which is a number and may be negative",
-        _ => CLOSE,
-    }
-}
-
 fn of_form(form: Form, count: usize) -> &'static str {
-    match form {
-        Form::Cat => TREE_OR_CLOSE,
-        Form::Alt if count == 0 => TREE,
-        Form::Alt => TREE_OR_CLOSE,
-        Form::Enclosing(_) => one_tree(count),
-        Form::Repeat { .. } => of_loop(count),
-        Form::Set { .. } => of_word(count, "a quoted text that is not empty and not folded"),
-        Form::Bytes => "a number up to 255, or a closing parenthesis",
-        Form::Naming(_) => of_word(count, NUMBER),
-        Form::Leveled(_) => of_level(count),
-        Form::Verb => of_word(count, "fail, accept, commit, skip or prune"),
-        Form::Conditional => trees(count, 3),
-        Form::AbsentExpression => trees(count, 2),
+    match (form, count) {
+        (Form::Alt, 0) => TREE,
+        (Form::Cat | Form::Alt, _) => "a tree, or a closing parenthesis",
+        (Form::Enclosing(_), 0) => TREE,
+        (Form::Repeat { .. }, 0) => "a number, the least count",
+        (Form::Repeat { .. }, 1) => "a number that is not less, or *, the greatest count",
+        (Form::Repeat { .. }, 2) => TREE,
+        (Form::Set { .. }, 0) => "a quoted text that is not empty and not folded",
+        (Form::Bytes, _) => "a number up to 255, or a closing parenthesis",
+        (Form::Naming(_) | Form::Leveled(_), 0) => "a number",
+        (Form::Leveled(_), 1) => "a level, which is a number and may be negative",
+        (Form::Verb, 0) => "fail, accept, commit, skip or prune",
+        (Form::Conditional, 0..=2) | (Form::AbsentExpression, 0..=1) => TREE,
+        _ => "a closing parenthesis",
     }
 }
 
@@ -89,7 +52,7 @@ fn of_part(part: Part) -> &'static str {
     match part.head {
         Head::Text if part.count == 0 => TREE,
         Head::Text => "the end of the tree",
-        Head::Parenthesis => WORD,
+        Head::Parenthesis => "a word that begins a form, as cat, alt, grp, rep or set",
         Head::Form(form) => of_form(form, part.count),
     }
 }

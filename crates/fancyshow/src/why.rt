@@ -1,46 +1,45 @@
 //! Why a text has no match: how far the attempt comes that comes furthest, and what does not follow there.
 
 use crate::all::marked_lines;
+use crate::brackets::inside;
 use crate::excerpt::push_excerpt;
+use crate::explain::push_leaf;
 use crate::find::{captures, push_match, push_taken};
 use crate::furthest::{Furthest, watch_run};
 use crate::list::compile;
+use crate::located::{Located, Outline, piece};
 use crate::marks::{Marked, MarkedLeaf, notation};
 use crate::outcome::Trouble;
 use crate::refusals::refusal;
 use crate::request::Request;
-use crate::source::{Span, leaf_spans, read};
+use crate::source::{Span, read};
 use fancy_command::arguments::Arguments;
 use fancy_expr::error::Error;
 use fancy_expr::expr::{Absent, Expr, ExprTree};
-use fancy_matches::found::Match;
 use fancy_notation::notation::read_tree;
 use fancy_railroad::names::GroupNames;
-use fancy_railroad::words::{frame_words, push_words};
+use fancy_railroad::words::frame_words;
 use fancy_vm::vm::RunOptions;
 use std::alloc::{AllocError, Global};
 
 /// How many instructions of a run are watched.
 const MOST_STEPS: u64 = 200_000;
 
-/// How the marked tree is compiled and run: as the tree itself, but for what limits and shortens the program.
-fn watched(arguments: &Arguments) -> Arguments {
-    Arguments {
-        max_prog: None,
-        longest: false,
-        ..*arguments
-    }
-}
-
-/// How far the attempts get, for a marked tree.
+/// How far the attempts get, for a marked tree. It is compiled and run as the tree itself, but for what limits and shortens
+/// the program.
 fn watch(
     alloc: Global,
     marked: &Marked<'_>,
     arguments: &Arguments,
     text: &str,
 ) -> Result<Option<Furthest>, Error> {
+    let arguments = Arguments {
+        max_prog: None,
+        longest: false,
+        ..*arguments
+    };
     let tree = read_tree(alloc, marked.text.as_str())?;
-    let prog = compile(alloc, arguments, &tree)?;
+    let prog = compile(alloc, &arguments, &tree)?;
     let options = RunOptions {
         step_limit: MOST_STEPS,
         ..arguments.running()
@@ -48,61 +47,64 @@ fn watch(
     watch_run(alloc, &prog, &marked.leaves, text, &options, MOST_STEPS)
 }
 
-/// A literal in quotes.
-fn literal(alloc: Global, text: &str, casei: bool) -> Result<String, AllocError> {
-    let note = if casei { " in any case" } else { "" };
-    format!(in alloc; "{text:?}{note}")
+/// What does not follow at the furthest place: in words, each once, and where that is in the pattern.
+#[derive(Drop)]
+struct Unmet {
+    words: Vec<String>,
+    spans: Vec<Span>,
 }
 
-/// What a look-around asks of what is in it, and that in the notation.
-fn framed(alloc: Global, expr: &Expr, body: &Expr) -> Result<String, AllocError> {
-    let words = frame_words(expr);
-    let body = notation(alloc, body)?;
-    format!(in alloc; "{words} {body}")
-}
-
-fn words(alloc: Global, expr: &Expr, names: &GroupNames) -> Result<String, AllocError> {
-    let mut out = String::new(alloc);
-    push_words(&mut out, expr, names)?;
-    Ok(out)
-}
-
-/// What is wanted where this leaf fails: in words, or of a tree in the notation.
+/// What is wanted where this leaf fails, which is this piece of the pattern: of a tree it is said in the notation.
 fn wanted(
     alloc: Global,
     expr: &Expr,
     names: &GroupNames,
-    is_tree: bool,
+    piece: Option<&str>,
 ) -> Result<String, AllocError> {
-    if is_tree {
-        return notation(alloc, expr);
+    let mut out = String::new(alloc);
+    match (expr, piece) {
+        (_, None) => return notation(alloc, expr),
+        (Expr::LookAround(_, _) | Expr::Absent(Absent::Repeater(_)), Some(piece)) => {
+            let (words, piece) = (frame_words(expr), inside(piece));
+            write!(out, "{words} {piece}")?;
+        }
+        _ => push_leaf(&mut out, expr, names)?,
     }
-    match expr {
-        Expr::Literal { val, casei } => literal(alloc, val.as_str(), *casei),
-        Expr::LookAround(body, _) => framed(alloc, expr, body),
-        Expr::Absent(Absent::Repeater(body)) => framed(alloc, expr, body),
-        _ => words(alloc, expr, names),
+    Ok(out)
+}
+
+impl Unmet {
+    /// Adds what is wanted where a leaf fails.
+    fn add(&mut self, words: String, span: Option<Span>) -> Result<(), AllocError> {
+        if !self.words.contains(&words) {
+            self.words.push(words)?;
+        }
+        self.spans.extend(span)?;
+        Ok(())
     }
 }
 
-/// What is wanted at the furthest place, each once.
-fn all_wanted(
+/// What the run wants at the furthest place.
+fn missing(
     alloc: Global,
-    leaves: &[MarkedLeaf<'_>],
-    furthest: &Furthest,
+    request: &Request,
     names: &GroupNames,
-    is_tree: bool,
-) -> Result<Vec<String>, AllocError> {
-    let mut all: Vec<String> = Vec::new(alloc);
-    for mark in furthest.wanted() {
-        if let Some(leaf) = leaves.get(mark.saturating_sub(1)) {
-            let said = wanted(alloc, leaf.expr, names, is_tree)?;
-            if !all.contains(&said) {
-                all.push(said)?;
-            }
+    nodes: &[Located<'_>],
+    marked: &Marked<'_>,
+    furthest: &Furthest,
+) -> Result<Unmet, AllocError> {
+    let mut missing = Unmet {
+        words: Vec::new(alloc),
+        spans: Vec::new(alloc),
+    };
+    for (i, leaf) in marked.leaves.iter().enumerate() {
+        if furthest.wanted().contains(&i.saturating_add(1)) {
+            let span = nodes.get(leaf.index).and_then(|node| node.span);
+            let shown = span.map(|_| piece(request.source.as_str(), span));
+            missing.add(wanted(alloc, leaf.expr, names, shown)?, span)?;
         }
     }
-    Ok(all)
+    Ok(missing)
 }
 
 /// Writes what the attempt takes, or that none takes anything.
@@ -147,40 +149,6 @@ fn push_end(out: &mut String, is_cut: bool) -> Result<(), AllocError> {
     out.push('\n')
 }
 
-/// The pieces of the pattern that do not follow; none where it is not known where the leaves stand.
-fn pieces(
-    alloc: Global,
-    marked: &Marked<'_>,
-    spans: &[Span],
-    furthest: &Furthest,
-) -> Result<Vec<Span>, AllocError> {
-    let mut pieces = Vec::new(alloc);
-    if spans.len() != marked.passed {
-        return Ok(pieces);
-    }
-    for (i, leaf) in marked.leaves.iter().enumerate() {
-        let last = leaf.end.saturating_sub(1);
-        if let (Some((start, _)), Some((_, end))) = (spans.get(leaf.first), spans.get(last)) {
-            if furthest.wanted().contains(&i.saturating_add(1)) {
-                pieces.push((*start, *end))?;
-            }
-        }
-    }
-    Ok(pieces)
-}
-
-/// The lines of the pattern with what does not follow marked in them; nothing of a tree that was not read from a pattern.
-fn marked_pattern(
-    alloc: Global,
-    request: &Request,
-    marked: &Marked<'_>,
-    furthest: &Furthest,
-) -> Result<String, AllocError> {
-    let spans = leaf_spans(alloc, request)?;
-    let pieces = pieces(alloc, marked, &spans, furthest)?;
-    marked_lines(alloc, request.source.as_str(), &pieces, false)
-}
-
 /// How far the attempts come, what does not follow there, and where that is in the pattern.
 fn explain_furthest(
     alloc: Global,
@@ -191,9 +159,10 @@ fn explain_furthest(
     furthest: &Furthest,
 ) -> Result<String, AllocError> {
     let names = GroupNames::new(alloc, &tree.named_groups)?;
-    let all = all_wanted(alloc, &marked.leaves, furthest, &names, request.is_tree)?;
-    let lines = marked_pattern(alloc, request, marked, furthest)?;
-    explanation(alloc, text, furthest, &all, lines.as_str())
+    let outline = Outline::of(alloc, request, &tree.expr)?;
+    let missing = missing(alloc, request, &names, &outline.nodes, marked, furthest)?;
+    let lines = marked_lines(alloc, request.source.as_str(), &missing.spans, false)?;
+    explanation(alloc, text, furthest, &missing.words, lines.as_str())
 }
 
 /// How far the attempts come, what does not follow there, and the lines of the pattern with that, if there are any.
@@ -206,17 +175,11 @@ fn explanation(
 ) -> Result<String, AllocError> {
     let mut out = String::from_str(alloc, "no match\n")?;
     push_furthest(&mut out, text, furthest, all)?;
-    push_pattern(&mut out, lines)?;
-    Ok(out)
-}
-
-/// Writes the lines of the pattern, if there are any.
-fn push_pattern(out: &mut String, lines: &str) -> Result<(), AllocError> {
-    if lines.is_empty() {
-        return Ok(());
+    if !lines.is_empty() {
+        out.push_str("in the pattern:\n")?;
     }
-    out.push_str("in the pattern:\n")?;
-    out.push_str(lines)
+    out.push_str(lines)?;
+    Ok(out)
 }
 
 /// Explains why the tree has no match, by a run of it with marks.
@@ -228,8 +191,7 @@ fn explain_tree(
 ) -> Result<String, Error> {
     let mut marked = Marked::new(alloc);
     marked.push_tree(&tree.expr)?;
-    let arguments = watched(&request.arguments);
-    match watch(alloc, &marked, &arguments, text)? {
+    match watch(alloc, &marked, &request.arguments, text)? {
         Some(furthest) => Ok(explain_furthest(alloc, request, tree, &marked, text, &furthest)?),
         None => Ok(String::from_str(alloc, "no match\n")?),
     }
@@ -246,18 +208,15 @@ fn explain(alloc: Global, request: &Request, text: &str) -> Result<String, Troub
     }
 }
 
-/// There is a match, against what is asked.
-fn contradiction(alloc: Global, found: &Match<'_>) -> Result<String, Trouble> {
-    let mut out = String::from_str(alloc, "there is a match  ")?;
-    push_match(&mut out, found)?;
-    Ok(out)
-}
-
 /// Why a text has no match: how far the attempt comes that comes furthest, and what does not follow there.
 pub fn why(alloc: Global, request: &Request, text: &str) -> Result<String, Trouble> {
     let (found, _groups) = captures(alloc, request, text)?;
     match found {
         None => explain(alloc, request, text),
-        Some(captures) => contradiction(alloc, &captures.whole()),
+        Some(captures) => {
+            let mut out = String::from_str(alloc, "there is a match  ")?;
+            push_match(&mut out, &captures.whole())?;
+            Ok(out)
+        }
     }
 }

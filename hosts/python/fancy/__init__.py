@@ -7,8 +7,11 @@
 The syntax is that of fancy-regex: `(?~ )`, `\\g<name>`, `(?>..)`, `\\K`, `\\p{Greek}` and nested classes are there. Offsets are
 in characters, from 0. README.md says what differs from `re`.
 
+Bytes are searched by patterns that are bytes, as `re` does: each byte is the character with its number, and only ASCII letters
+are letters. With the option `utf8` of `compile` they are UTF-8. Offsets are in bytes then.
+
 A pattern that cannot be read, or is refused, raises `error`. A search that exceeds a limit raises `LimitError`, which is an
-`error` too. Out of memory is `MemoryError`. A lone surrogate in a pattern or a string is a `UnicodeEncodeError`.
+`error` too. Out of memory is `MemoryError`. Lone surrogates are searched as the characters U+10F800 to U+10FFFF.
 """
 
 from __future__ import annotations
@@ -21,9 +24,9 @@ from ._flags import RegexFlag
 from ._library import VERSION as __version__
 from ._library import version
 from ._objects import Match, Pattern, compiled, forget
-from ._rest import Replacement
+from ._rest import AnyString, Replacement, made
 from ._scanner import Found, Scanner
-from ._texts import plain, whole_number
+from ._texts import plain, plain_bytes, whole_number
 
 __all__ = [
     "A", "ASCII", "DOTALL", "Found", "I", "IGNORECASE", "LimitError", "M", "MULTILINE", "Match", "NOFLAG", "Pattern", "RegexFlag", "S",
@@ -39,17 +42,26 @@ S = DOTALL = RegexFlag.DOTALL
 U = UNICODE = RegexFlag.UNICODE
 X = VERBOSE = RegexFlag.VERBOSE
 
-AnyPattern = Union[str, Pattern]
-_KNOWN = A | I | M | S | U | X
+AnyPattern = Union[str, bytes, Pattern]
+# as plain numbers, which cost less than flags
+_ASCII, _UNICODE, _KNOWN = int(A), int(U), int(A | I | M | S | U | X)
 
 
 @lru_cache(maxsize=512)
-def _kept(pattern: str, flags: int) -> Pattern:
-    return Pattern(pattern, RegexFlag(flags), {})
+def _kept(kind: type, pattern: AnyString, flags: int) -> Pattern:
+    return made(pattern, flags, {})
+
+
+def _plain(pattern: Any) -> AnyString:
+    if isinstance(pattern, str):
+        return plain(pattern)
+    if isinstance(pattern, bytes):
+        return plain_bytes(pattern)
+    raise TypeError(f"a pattern is a string or bytes, not {type(pattern).__name__!r}")
 
 
 def compile(pattern: AnyPattern, flags: int = 0, **options: Any) -> Pattern:
-    """Compiles a pattern. The flags are A, I, M, S, U and X. A `Pattern` is returned as it is.
+    """Compiles a pattern, of a string or of bytes. The flags are A, I, M, S, U and X. A `Pattern` is returned as it is.
 
     Limits of a search, as options by name:
 
@@ -68,63 +80,70 @@ def compile(pattern: AnyPattern, flags: int = 0, **options: Any) -> Pattern:
     find_not_empty (a match is not empty), leftmost_longest (the longest match at the earliest start, not the first one), and
     crlf, swap_greed, oniguruma and ignore_numbered_groups_when_named_groups_exist, as RegexBuilder of fancy-regex has them.
 
-    Raises `error`, with `pos`, if the pattern cannot be read or is refused, and ValueError for unknown flags.
+    And utf8, of a pattern of bytes: it is UTF-8, and so are the bytes that are searched. Each sequence of these that is no UTF-8
+    reads as one U+FFFD; a position inside a character is that of the next one.
+
+    Raises `error`, with `pos`, if the pattern cannot be read or is refused, ValueError for unknown flags, and UnicodeError for a
+    pattern of bytes that is no UTF-8 and should be, or of a string with lone surrogates and with what stands for them.
 
         >>> import fancy
         >>> fancy.compile("[a-z]+", fancy.I, step_limit=1_000_000).search("7 Apples").span()
         (2, 8)
+        >>> fancy.compile("é+".encode(), utf8=True).search(b"\\xff caf\\xc3\\xa9").span()
+        (5, 7)
     """
     if isinstance(pattern, Pattern):
         if flags or options:
             raise ValueError("cannot process flags or options with a compiled pattern")
         return pattern
-    if not isinstance(pattern, str):
-        raise TypeError(f"a pattern is a string, not {type(pattern).__name__!r}")
-    pattern, flags = plain(pattern), whole_number(flags)
-    if flags & ~int(_KNOWN):
-        raise ValueError(f"unknown flags: {flags & ~int(_KNOWN)}")
-    if flags & A and flags & U:
+    pattern, flags = _plain(pattern), whole_number(flags)
+    is_unicode = isinstance(pattern, str) or bool(options.get("utf8"))
+    if flags & ~_KNOWN:
+        raise ValueError(f"unknown flags: {flags & ~_KNOWN}")
+    if flags & _ASCII and flags & _UNICODE:
         raise ValueError("ASCII and UNICODE flags are incompatible")
-    flags |= 0 if flags & A else int(U)
-    return Pattern(pattern, RegexFlag(flags), options) if options else _kept(pattern, flags)
+    if flags & _UNICODE and not is_unicode:
+        raise ValueError("cannot use UNICODE flag with a bytes pattern")
+    flags |= _UNICODE if is_unicode and not flags & _ASCII else 0
+    return made(pattern, flags, options) if options else _kept(type(pattern), pattern, flags)
 
 
-def search(pattern: AnyPattern, string: str, flags: int = 0) -> Optional[Match]:
+def search(pattern: AnyPattern, string: AnyString, flags: int = 0) -> Optional[Match]:
     """The first match of the pattern in the string, or None. See `Pattern.search`."""
     return compiled(pattern, flags).search(string)
 
 
-def match(pattern: AnyPattern, string: str, flags: int = 0) -> Optional[Match]:
+def match(pattern: AnyPattern, string: AnyString, flags: int = 0) -> Optional[Match]:
     """The match at the start of the string, or None. See `Pattern.match`."""
     return compiled(pattern, flags).match(string)
 
 
-def fullmatch(pattern: AnyPattern, string: str, flags: int = 0) -> Optional[Match]:
+def fullmatch(pattern: AnyPattern, string: AnyString, flags: int = 0) -> Optional[Match]:
     """The match of the whole string, or None. See `Pattern.fullmatch`."""
     return compiled(pattern, flags).fullmatch(string)
 
 
-def finditer(pattern: AnyPattern, string: str, flags: int = 0) -> Iterator[Match]:
+def finditer(pattern: AnyPattern, string: AnyString, flags: int = 0) -> Iterator[Match]:
     """An iterator over the matches, from left to right. See `Pattern.finditer`."""
     return compiled(pattern, flags).finditer(string)
 
 
-def findall(pattern: AnyPattern, string: str, flags: int = 0) -> List[Any]:
+def findall(pattern: AnyPattern, string: AnyString, flags: int = 0) -> List[Any]:
     """The texts of all matches, or of their groups, as a list. See `Pattern.findall`."""
     return compiled(pattern, flags).findall(string)
 
 
-def split(pattern: AnyPattern, string: str, maxsplit: int = 0, flags: int = 0) -> List[Optional[str]]:
+def split(pattern: AnyPattern, string: AnyString, maxsplit: int = 0, flags: int = 0) -> List[Optional[AnyString]]:
     """The pieces of the string between the matches, as a list. See `Pattern.split`."""
     return compiled(pattern, flags).split(string, maxsplit)
 
 
-def sub(pattern: AnyPattern, repl: Replacement, string: str, count: int = 0, flags: int = 0) -> str:
+def sub(pattern: AnyPattern, repl: Replacement, string: AnyString, count: int = 0, flags: int = 0) -> AnyString:
     """The string with its matches replaced. See `Pattern.sub`."""
     return compiled(pattern, flags).sub(repl, string, count)
 
 
-def subn(pattern: AnyPattern, repl: Replacement, string: str, count: int = 0, flags: int = 0) -> Tuple[str, int]:
+def subn(pattern: AnyPattern, repl: Replacement, string: AnyString, count: int = 0, flags: int = 0) -> Tuple[AnyString, int]:
     """The string with its matches replaced, and how many were. See `Pattern.subn`."""
     return compiled(pattern, flags).subn(repl, string, count)
 
@@ -132,16 +151,17 @@ def subn(pattern: AnyPattern, repl: Replacement, string: str, count: int = 0, fl
 _SPECIAL = {ord(letter): "\\" + letter for letter in "()[]{}?*+-|^$\\.&~# \t\n\r\v\f"}
 
 
-def escape(pattern: str) -> str:
+def escape(pattern: AnyString) -> AnyString:
     """The pattern that matches a text as it is, under all flags: what `re.escape` returns.
 
         >>> import fancy
         >>> print(fancy.escape("1+1"))
         1\\+1
     """
-    if not isinstance(pattern, str):
-        raise TypeError(f"a pattern is a string, not {type(pattern).__name__!r}")
-    return plain(pattern).translate(_SPECIAL)
+    pattern = _plain(pattern)
+    if isinstance(pattern, bytes):
+        return pattern.decode("latin-1").translate(_SPECIAL).encode("latin-1")
+    return pattern.translate(_SPECIAL)
 
 
 def purge() -> None:

@@ -2,7 +2,7 @@
 
 from __future__ import annotations
 
-from typing import Optional
+from typing import Optional, Union
 
 
 class error(Exception):
@@ -18,7 +18,7 @@ class error(Exception):
     __module__ = "fancy"
 
     def __init__(
-        self, msg: str, pattern: Optional[str] = None, pos: Optional[int] = None, name: Optional[str] = None
+        self, msg: str, pattern: Union[str, bytes, None] = None, pos: Optional[int] = None, name: Optional[str] = None
     ) -> None:
         self.msg = msg
         self.pattern = pattern
@@ -28,12 +28,19 @@ class error(Exception):
         self.colno: Optional[int] = None
         text = msg
         if pattern is not None and pos is not None:
-            self.lineno = pattern.count("\n", 0, pos) + 1
-            self.colno = pos - pattern.rfind("\n", 0, pos)
+            newline = "\n" if isinstance(pattern, str) else b"\n"
+            self.lineno = pattern.count(newline, 0, pos) + 1  # type: ignore[arg-type]
+            self.colno = pos - pattern.rfind(newline, 0, pos)  # type: ignore[arg-type]
             text = f"{msg} at position {pos}"
-            if "\n" in pattern:
+            if newline in pattern:  # type: ignore[operator]
                 text += f" (line {self.lineno}, column {self.colno})"
         super().__init__(text)
+
+    def over(self, pattern: bytes, code: str) -> "error":
+        """The same error, of the bytes of which this has the text, or had it before it was rewritten."""
+        is_text = isinstance(self.pattern, str) and self.pos is not None and self.pattern == pattern.decode(code)
+        pos = len(self.pattern[: self.pos].encode(code)) if is_text else None  # type: ignore[index, union-attr]
+        return type(self)(self.msg, pattern, pos, self.name)
 
     def __reduce__(self):
         return type(self), (self.msg, self.pattern, self.pos, self.name)

@@ -60,10 +60,14 @@ def _template(pattern: Pattern, text: str) -> Tuple[Any, ...]:
 
 
 def _part(part: Any, numbers: Mapping[str, Tuple[int, ...]]) -> Any:
-    """A part of a template: a text, the number of a group, or those of all groups with a name."""
-    if isinstance(part, str):
+    """A part of a template: a text or bytes, the number of a group, or those of all groups with a name."""
+    if not isinstance(part, tuple):
         return part
     return part[0] if isinstance(part[0], int) else numbers[part[0]]
+
+
+def _twin(pattern: Pattern) -> Pattern:
+    return pattern._twin()
 
 
 def _compile(pattern: Any, flags: int) -> Pattern:
@@ -72,11 +76,16 @@ def _compile(pattern: Any, flags: int) -> Pattern:
     return compile(pattern, flags)
 
 
-_core._help((_addresses, _options, numbered, _refusal, _fault, _whole, _closings, _template, _compile))
+_core._help((_addresses, _options, numbered, _refusal, _fault, _whole, _closings, _template, _compile, _twin))
 
 
 # ---- What is added to its objects
 
 
-for of, rest in ((Match, MatchRest), (ReMatch, MatchRest), (Pattern, PatternRest), (RePattern, PatternRest)):
-    add(of, rest)
+add(Match, MatchRest)
+add(Pattern, PatternRest)
+
+
+def add_to_re(of_patterns: type, of_matches: type) -> None:
+    """What the objects of the module `re` have beside: their types cannot be changed, so they call it."""
+    _core._serve(type("Rest", (of_patterns, PatternRest), {}), type("Rest", (of_matches, MatchRest), {}))

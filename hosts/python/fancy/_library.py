@@ -198,18 +198,22 @@ class Options:
         RegexFlag.VERBOSE: "ignore_whitespace",
         RegexFlag.ASCII: "ascii",
     }
-    __slots__ = ("given", "_fields")
+    __slots__ = ("given", "is_utf8", "_fields")
 
     def __init__(self, given: Tuple[Tuple[str, Any], ...], fields: Mapping[str, Any]) -> None:
         self.given = given
+        # of a pattern over bytes: they are UTF-8
+        self.is_utf8 = bool(dict(given).get("utf8"))
         self._fields = dict(fields)
 
     @classmethod
     def of(cls, flags: RegexFlag, given: Mapping[str, Any]) -> "Options":
         fields: Dict[str, Any] = {name: True for flag, name in cls.FLAGS.items() if flags & flag}
         for name, value in given.items():
+            if name == "utf8":
+                continue
             if name not in cls.NAMES:
-                raise TypeError(f"there is no option {name!r}; the options are {', '.join(cls.NAMES)}")
+                raise TypeError(f"there is no option {name!r}; the options are {', '.join(cls.NAMES)}, utf8")
             if isinstance(value, int):
                 value = whole_number(value)
                 if not 0 <= value <= UNSET:
@@ -238,7 +242,7 @@ class Options:
         return options
 
     def __eq__(self, other: object) -> bool:
-        return isinstance(other, Options) and self._fields == other._fields
+        return isinstance(other, Options) and (self.is_utf8, self._fields) == (other.is_utf8, other._fields)
 
     def __hash__(self) -> int:
         return hash(tuple(sorted(self._fields.items())))
@@ -247,7 +251,7 @@ class Options:
 # ---- Programs
 
 
-def fault_of(outcome: Outcome, pattern: Optional[str]) -> Optional[Exception]:
+def fault_of(outcome: Outcome, pattern: Any) -> Optional[Exception]:
     """Why a call has no result. No match is a result."""
     if outcome.code in (OK, NO_MATCH):
         return None
@@ -295,10 +299,12 @@ class Program:
     """A pattern that was compiled. Threads may search with it at the same time: each takes a handle of its own, and those share
     what was compiled."""
 
-    __slots__ = ("pattern", "groups", "_options", "_original", "_copying", "_idle")
+    __slots__ = ("pattern", "groups", "_shown", "_options", "_original", "_copying", "_idle")
 
-    def __init__(self, pattern: str, options: Options) -> None:
+    def __init__(self, pattern: str, options: Options, shown: Any) -> None:
+        """`shown` is the pattern as errors of searches have it."""
         self.pattern = pattern
+        self._shown = shown
         self._options = options
         # nothing is searched with it, so there is always one to copy, by one thread at a time
         self._original = self._compiled()
@@ -342,7 +348,7 @@ class Program:
 
     def _expect_result(self, outcome: Outcome) -> None:
         """Raises if the call has no result."""
-        fault = fault_of(outcome, self.pattern)
+        fault = fault_of(outcome, self._shown)
         if fault is not None:
             raise fault
 
@@ -369,7 +375,7 @@ class Program:
         outcome = call(handle.program, text, length, handle.options, cursor, spans, len(spans))
         self._idle.append(handle)
         rows = [spans[at : at + width] for at in range(0, width * outcome.count, width)]
-        return rows, fault_of(outcome, self.pattern), outcome.code == OK
+        return rows, fault_of(outcome, self._shown), outcome.code == OK
 
 
 # ---- Many patterns

@@ -9,12 +9,12 @@ import sys
 try:
     if os.environ.get("FANCY_CTYPES") or sys.version_info < (3, 10):
         raise ImportError("the extension is not wanted")
-    from ._fast import Match, Pattern, ReMatch, RePattern, compiled, forget, found, re_pattern
+    from ._fast import Match, Pattern, ReMatch, RePattern, add_to_re, compiled, forget, found, re_pattern
 
     IS_FAST = True
 except ImportError:
-    from ._patterns import Match, Pattern, ReMatch, RePattern, compiled, forget, found, re_pattern
+    from ._patterns import Match, Pattern, ReMatch, RePattern, add_to_re, compiled, forget, found, re_pattern
 
     IS_FAST = False
 
-__all__ = ["IS_FAST", "Match", "Pattern", "ReMatch", "RePattern", "compiled", "forget", "found", "re_pattern"]
+__all__ = ["IS_FAST", "Match", "Pattern", "ReMatch", "RePattern", "add_to_re", "compiled", "forget", "found", "re_pattern"]

@@ -3,12 +3,12 @@
 from __future__ import annotations
 
 import sys
-from typing import Any, Dict, Iterator, List, Mapping, Optional, Tuple
+from typing import Any, Dict, Iterator, List, Optional, Tuple
 
 from ._flags import RegexFlag
 from ._library import ROW_SPANS, UNSET, Options, Program, Cursor
-from ._rest import Group, MatchRest, PatternRest, Replacement, numbered
-from ._texts import Text, forget_texts, plain, text_of, whole_number
+from ._rest import AnyString, Group, MatchRest, PatternRest, Replacement, add, numbered
+from ._texts import STR, forget_texts, piece, text_of, whole_number
 
 # For how many numbers a call has room, at most, or for one match.
 _MOST_ROOM = 1 << 17
@@ -20,7 +20,7 @@ class Match(MatchRest):
     __module__ = "fancy"
     __slots__ = ("re", "string", "pos", "endpos", "regs", "_text")
 
-    def __init__(self, pattern: "Pattern", string: str, text: Text, pos: int, endpos: int, spans: List[int]) -> None:
+    def __init__(self, pattern: "Pattern", string: AnyString, text: Any, pos: int, endpos: int, spans: List[int]) -> None:
         self.re = pattern
         self.string = string
         self.pos = pos
@@ -45,9 +45,9 @@ class Match(MatchRest):
 
     def _text_of(self, number: int, default: Any = None) -> Any:
         start, end = self.regs[number]
-        return self._text.string[start:end] if start >= 0 else default
+        return piece(self.string, self._text, start, max(start, end)) if start >= 0 else default
 
-    def __getitem__(self, group: Group) -> Optional[str]:
+    def __getitem__(self, group: Group) -> Optional[AnyString]:
         return self._text_of(self._number(group))
 
     def group(self, *groups: Group) -> Any:
@@ -84,12 +84,12 @@ class Match(MatchRest):
     @property
     def lastindex(self) -> Optional[int]:
         """The number of the group that closed last; None if none is set. It is the last one in the pattern, of those in one
-        loop the one that ends last in the text, and of those in one another the outer one."""
+        loop the one that ends last in the text, or else begins last, and of those in one another the outer one."""
         closings = self.re._reading().closings(self.re.groups)
         numbers = [number for number in range(1, len(self.regs)) if self.regs[number][0] >= 0]
         if not numbers:
             return None
-        last = max(numbers, key=lambda it: (closings[it].loop, self.regs[it][1], closings[it].closed))
+        last = max(numbers, key=lambda it: (closings[it].loop, *reversed(self.regs[it]), closings[it].closed))
         return max(numbers, key=lambda it: closings[it].closed if closings[it].encloses(closings[last]) else -1)
 
     @property
@@ -104,31 +104,43 @@ class Pattern(PatternRest):
 
     __module__ = "fancy"
     __slots__ = (
-        "pattern", "flags", "groups", "groupindex", "_text", "_options", "_numbers", "_is_adjacent", "_programs", "_cache", "__weakref__",
+        "pattern", "flags", "groups", "groupindex", "_text", "_options", "_names", "_numbers", "_is_adjacent", "_reads",
+        "_programs", "_cache", "__weakref__",
     )  # fmt: skip
 
     def __init__(
-        self, pattern: Any, flags: int, options: Any, text: Optional[str] = None, names: Any = None, adjacent: bool = False
-    ) -> None:
-        """The last three are of the module `re`: the text that is compiled, the names of the groups, and whether an empty match
-        may follow directly after another."""
+        self, pattern: Any, flags: int, options: Any, text: Optional[str] = None, names: Any = None, adjacent: bool = False,
+        reads: int = STR,
+    ) -> None:  # fmt: skip
+        """The text is what is compiled, if that is not the pattern as it is; `reads` is how texts are read. The names of the
+        groups, and whether an empty match may follow directly after another, are of the module `re`."""
         self.pattern = pattern
         self.flags = flags
         self._text: str = pattern if text is None else text
         self._options = options if isinstance(options, Options) else Options.of(RegexFlag(flags), options)
         self._is_adjacent = adjacent
-        program = Program(self._text, self._options)
+        self._reads = reads
+        program = Program(self._text, self._options, pattern)
         self._programs: Dict[str, Program] = {"search": program}
         self.groups = program.groups - 1
-        self._numbers, self.groupindex = numbered(program.names() if names is None else names)
+        self._names = tuple(program.names() if names is None else names)
+        self._numbers, self.groupindex = numbered(self._names)
         self._cache: Dict[str, Any] = {}
 
     def _program(self, way: str) -> Program:
         """The program for a way to search: `search`, `full`, or `advance` for matches that are not empty."""
         if way not in self._programs:
             text, options = self._whole() if way == "full" else (self._text, self._options.with_(not_empty=True))
-            self._programs[way] = Program(text, options)
+            self._programs[way] = Program(text, options, self.pattern)
         return self._programs[way]
+
+    def _searched(self) -> "Pattern":
+        """What is searched for in texts with lone surrogates."""
+        if "twin" not in self._cache:
+            twin = self._twin()
+            # None stands for itself, so that there is no ring
+            self._cache["twin"] = None if twin is self else twin
+        return self._cache["twin"] or self
 
     @property
     def _idle(self) -> int:
@@ -137,7 +149,7 @@ class Pattern(PatternRest):
 
     # ---- One match
 
-    def search(self, string: str, pos: int = 0, endpos: int = sys.maxsize) -> Optional[Match]:
+    def search(self, string: AnyString, pos: int = 0, endpos: int = sys.maxsize) -> Optional[Match]:
         """The first match that begins at pos or later, or None.
 
             >>> import fancy
@@ -146,11 +158,11 @@ class Pattern(PatternRest):
         """
         return _Range(self, string, pos, endpos).find("search", is_anchored=False)
 
-    def match(self, string: str, pos: int = 0, endpos: int = sys.maxsize) -> Optional[Match]:
+    def match(self, string: AnyString, pos: int = 0, endpos: int = sys.maxsize) -> Optional[Match]:
         """The match that begins at pos, or None."""
         return _Range(self, string, pos, endpos).find("search", is_anchored=True)
 
-    def fullmatch(self, string: str, pos: int = 0, endpos: int = sys.maxsize) -> Optional[Match]:
+    def fullmatch(self, string: AnyString, pos: int = 0, endpos: int = sys.maxsize) -> Optional[Match]:
         """The match that begins at pos and ends at endpos, or None.
 
         Raises `error` if the pattern calls itself as a whole, as by `\\g<0>`, and has a lazy loop.
@@ -161,7 +173,7 @@ class Pattern(PatternRest):
 
     # ---- All matches
 
-    def finditer(self, string: str, pos: int = 0, endpos: int = sys.maxsize) -> Iterator[Match]:
+    def finditer(self, string: AnyString, pos: int = 0, endpos: int = sys.maxsize) -> Iterator[Match]:
         """An iterator over the matches, from left to right. Matches do not overlap, and an empty match directly after another
         match is left out.
 
@@ -171,17 +183,18 @@ class Pattern(PatternRest):
         """
         return _Range(self, string, pos, endpos).matches()
 
-    def findall(self, string: str, pos: int = 0, endpos: int = sys.maxsize) -> List[Any]:
+    def findall(self, string: AnyString, pos: int = 0, endpos: int = sys.maxsize) -> List[Any]:
         """The texts of all matches. If the pattern has one group, they are the texts of that group; if it has more, tuples of
         the texts of the groups, with "" for a group that is not set."""
         matches = self.finditer(string, pos, endpos)
         if self.groups == 0:
             return [match[0] for match in matches]
+        empty: AnyString = "" if self._reads == STR else b""
         if self.groups == 1:
-            return [match._text_of(1, "") for match in matches]
-        return [match.groups("") for match in matches]
+            return [match._text_of(1, empty) for match in matches]
+        return [match.groups(empty) for match in matches]
 
-    def split(self, string: str, maxsplit: int = 0) -> List[Optional[str]]:
+    def split(self, string: AnyString, maxsplit: int = 0) -> List[Optional[AnyString]]:
         """The pieces of the string between the matches, and between two of them the groups of the match. At most maxsplit
         matches split the string, and all do if it is 0.
 
@@ -189,9 +202,9 @@ class Pattern(PatternRest):
             >>> fancy.compile(r",\\s*").split("one, two,three")
             ['one', 'two', 'three']
         """
-        pieces: List[Optional[str]] = []
+        pieces: List[Any] = []
         part, end = _Range(self, string), 0
-        string = part.text.string
+        string = part.text.source
         for match in part.matches(whole_number(maxsplit)):
             pieces.append(string[end : match.start()])
             pieces.extend(match.groups())
@@ -199,7 +212,7 @@ class Pattern(PatternRest):
         pieces.append(string[end:])
         return pieces
 
-    def sub(self, repl: Replacement, string: str, count: int = 0) -> str:
+    def sub(self, repl: Replacement, string: AnyString, count: int = 0) -> AnyString:
         """The string with its matches replaced: the first `count` of them, or all if count is 0.
 
         repl is a template, in which `\\1`, `\\g<1>` and `\\g<name>` are groups, or a function that returns the new text of a
@@ -211,21 +224,21 @@ class Pattern(PatternRest):
         """
         return self.subn(repl, string, count)[0]
 
-    def subn(self, repl: Replacement, string: str, count: int = 0) -> Tuple[str, int]:
+    def subn(self, repl: Replacement, string: AnyString, count: int = 0) -> Tuple[AnyString, int]:
         """What `sub` returns, and how many matches were replaced."""
         template = None if callable(repl) else self._template(repl)
         expand = template.expand if template else repl
         with_groups = template is None or template.asks_for_groups()
         part, end = _Range(self, string), 0
-        pieces: List[Optional[str]] = []
+        pieces: List[Any] = []
         for match in part.matches(whole_number(count), with_groups):
-            pieces += part.text.string[end : match.start()], expand(match)
+            pieces += part.text.source[end : match.start()], expand(match)
             end = match.end()
         if not pieces:
-            return plain(string), 0
-        pieces.append(part.text.string[end:])
+            return part.text.source, 0
+        pieces.append(part.text.source[end:])
         # what a function writes may be None, which is nothing
-        return "".join([piece for piece in pieces if piece is not None]), len(pieces) // 2
+        return part.text.source[:0].join([it for it in pieces if it is not None]), len(pieces) // 2
 
 
     _kind = Match
@@ -249,17 +262,20 @@ class RePattern(Pattern):
 class _Range:
     """A pattern and a part of a string, from pos to endpos, in which it is searched for."""
 
-    def __init__(self, pattern: Pattern, string: str, pos: int = 0, endpos: int = sys.maxsize) -> None:
+    def __init__(self, pattern: Pattern, string: AnyString, pos: int = 0, endpos: int = sys.maxsize) -> None:
         self.pattern = pattern
         self.string = string
-        self.text = text_of(string)
+        self.text = text_of(string, pattern._reads)
+        # keeps who has a buffer from changing its size
+        self.view = None if isinstance(string, (str, bytes)) else memoryview(string)
+        self.searched = pattern._searched() if self.text.is_mapped else pattern
         self.pos, self.endpos = self.text.clipped(pos), self.text.clipped(endpos)
         self.end = self.text.byte_of(self.endpos)
 
     def find(self, way: str, is_anchored: bool) -> Optional[Match]:
         if self.pos > self.endpos:
             return None
-        program = self.pattern._program(way)
+        program = self.searched._program(way)
         spans = program.find(self.text.utf8, self.end, self.text.byte_of(self.pos), is_anchored)
         return self.match_of(spans) if spans else None
 
@@ -281,13 +297,13 @@ class _Range:
         behind."""
         at, was_empty = self.text.byte_of(self.pos), False
         for _ in range(limit):
-            found = self.pattern._program("advance").find(self.text.utf8, self.end, at, True) if was_empty else None
+            found = self.searched._program("advance").find(self.text.utf8, self.end, at, True) if was_empty else None
             if found is None and was_empty:
                 if at >= self.end:
                     return
                 at = self.text.byte_of(self.text.place_of(at) + 1)
             if found is None:
-                found = self.pattern._program("search").find(self.text.utf8, self.end, at, False)
+                found = self.searched._program("search").find(self.text.utf8, self.end, at, False)
             if found is None:
                 return
             yield found
@@ -296,7 +312,7 @@ class _Range:
     def spans(self, limit: int, with_groups: bool) -> Iterator[List[int]]:
         """Start and end of each match, or of each group of each match, of at most `limit`. Each call has room for twice as many
         matches as the one before, so there are few calls."""
-        program = self.pattern._program("search")
+        program = self.searched._program("search")
         cursor = Cursor(self.text.byte_of(self.pos), 0, False)
         most = max(1, _MOST_ROOM // (2 * program.groups if with_groups else 2))
         room, has_more = 1, True
@@ -318,16 +334,22 @@ def compiled(pattern: Any, flags: int) -> Pattern:
 
 
 def found(
-    rows: Any, count: int, width: int, patterns: Tuple[Pattern, ...], string: str, pos: int, endpos: int, kind: Any
+    rows: Any, count: int, width: int, patterns: Tuple[Pattern, ...], string: AnyString, reads: int, pos: int, endpos: int, kind: Any
 ) -> Iterator[Any]:
     """The matches of the rows of a scanner: each with the index of its pattern, and that of the first one that stopped."""
-    text = text_of(string)
+    text = text_of(string, reads)
     for start in range(0, width * count, width):
         index, stopped = rows[start], rows[start + 1]
         pattern = patterns[index]
         spans = rows[start + ROW_SPANS : start + ROW_SPANS + 2 * (pattern.groups + 1)]
         match = pattern._kind(pattern, string, text, pos, endpos, spans)
         yield kind(index, match, None if stopped == UNSET else stopped)
+
+
+def add_to_re(of_patterns: type, of_matches: type) -> None:
+    """What the objects of the module `re` have beside."""
+    add(RePattern, of_patterns)
+    add(ReMatch, of_matches)
 
 
 forget, re_pattern = forget_texts, RePattern

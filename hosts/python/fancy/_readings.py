@@ -1,14 +1,26 @@
 """What the text of a pattern says beside what its program does: its branches, its loops, the order in which its groups
-close, and calls of the whole."""
+close, calls of the whole, and its classes."""
 
 from __future__ import annotations
 
 import re
-from typing import List, NamedTuple, Optional, Tuple
+from typing import Iterator, List, NamedTuple, Optional, Tuple
 
 _COUNTS = re.compile(r"\{([0-9]*)(,?)([0-9]*)\}")
 _CALL = re.compile(r"g[<'][+-]?0+[>']")
 _WHOLE = re.compile(r"\(\?[+-]?0+\)")
+_NUMBER = re.compile(r"\\(?:x[0-9A-Fa-f]{2}|u[0-9A-Fa-f]{4}|[xu]\{[0-9A-Fa-f]+\})")
+_HAS_FOLDING = re.compile(r"\(\?[a-zA-Z]*i")
+# what an escape is where only ASCII letters are letters
+_ASCII = {"d": "0-9", "w": "0-9A-Za-z_", "s": r"\x09-\x0D\x20"}
+_BEYOND = r"(?-i:[\x{80}-\x{10FFFF}])"
+_BOUNDARY = "(?:(?<=[0-9A-Za-z_])(?![0-9A-Za-z_])|(?<![0-9A-Za-z_])(?=[0-9A-Za-z_]))"
+
+
+def _is_beyond(text: str, at: int) -> bool:
+    """Whether the number of a character beyond ASCII is here."""
+    number = _NUMBER.match(text, at)
+    return number is not None and int(number[0].strip("\\xu{}"), 16) > 127
 
 
 class _Open(NamedTuple):
@@ -51,6 +63,11 @@ class Reading:
         self._bars: List[int] = []
         # where a comment begins that goes on to the end
         self._comment: Optional[int] = None
+        # where an escape begins, and whether it is in a class
+        self._escapes: List[Tuple[int, bool]] = []
+        # where a character beyond ASCII is, outside of classes, and where a class begins and ends
+        self._beyond: List[int] = []
+        self._classes: List[Tuple[int, int]] = []
         self._read()
 
     # ---- What it says
@@ -61,6 +78,37 @@ class Reading:
         ends = [*self._bars, len(self._pattern)]
         line_end = "" if self._comment is None else "\n"
         return text.join(self._pattern[start:end] for start, end in zip(starts, ends)) + line_end + text
+
+    def over_ascii(self, folds: bool) -> str:
+        """The pattern in which only ASCII letters are letters, and other letters are not folded outside of references."""
+        edits = [*self._ascii_escapes()]
+        if folds or _HAS_FOLDING.search(self._pattern):
+            beyond = [at for at, is_inner in self._escapes if _is_beyond(self._pattern, at) and not is_inner]
+            edits += [(at, at + 1, f"(?-i:{self._pattern[at]})") for at in self._beyond]
+            edits += [(at, at + len(text), f"(?-i:{text})") for at in beyond for text in _NUMBER.findall(self._pattern[at:])[:1]]
+            for start, end in self._classes:
+                inner = self._edited(start, end, edits)
+                if any(letter > "\x7f" for letter in inner) or any(_is_beyond(inner, at) for at in range(len(inner))):
+                    edits = [it for it in edits if not start <= it[0] < end]
+                    edits.append((start, end, f"(?:(?!{_BEYOND}){inner}|(?={_BEYOND})(?-i:{inner}))"))
+        return self._edited(0, len(self._pattern), edits)
+
+    def _ascii_escapes(self) -> Iterator[Tuple[int, int, str]]:
+        """Where an escape of a class or a boundary is, with what it is among ASCII letters."""
+        for at, is_inner in self._escapes:
+            letter = self._pattern[at + 1 : at + 2]
+            if letter.lower() in _ASCII:
+                yield at, at + 2, f"[{'^' if letter.isupper() else ''}{_ASCII[letter.lower()]}]"
+            elif letter in ("b", "B") and not is_inner and self._pattern[at + 2 : at + 3] != "{":
+                yield at, at + 2, _BOUNDARY if letter == "b" else f"(?!{_BOUNDARY})"
+
+    def _edited(self, start: int, end: int, edits: List[Tuple[int, int, str]]) -> str:
+        """A part of the pattern with the edits in it."""
+        parts = []
+        for first, after, text in sorted(it for it in edits if start <= it[0] < end):
+            parts += self._pattern[start:first], text
+            start = after
+        return "".join([*parts, self._pattern[start:end]])
 
     def closings(self, groups: int) -> List[Closing]:
         """When each group closes, 0 first.
@@ -91,9 +139,12 @@ class Reading:
             letter = self._pattern[self._at]
             if letter == "\\":
                 self.calls_whole |= _CALL.match(self._pattern, self._at + 1) is not None
+                self._escapes.append((self._at, False))
                 self._at += 2
             elif letter == "[":
+                start = self._at
                 self._skip_class()
+                self._classes.append((start, self._at))
             elif letter == "#" and self._is_verbose:
                 self._skip_line()
             elif letter == "(":
@@ -103,6 +154,8 @@ class Reading:
             else:
                 if letter == "|" and not self._open:
                     self._bars.append(self._at)
+                if letter > "\x7f":
+                    self._beyond.append(self._at)
                 self._at += 1
 
     def _skip_line(self) -> None:
@@ -118,6 +171,7 @@ class Reading:
             letter = self._pattern[self._at]
             self._at += 1
             if letter == "\\":
+                self._escapes.append((self._at - 1, True))
                 self._at += 1
             elif letter == "[":
                 depth += 1

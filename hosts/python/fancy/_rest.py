@@ -5,14 +5,18 @@ from __future__ import annotations
 from types import MappingProxyType
 from typing import Any, Callable, Dict, Iterable, Mapping, Optional, Tuple, Union
 
+from ._errors import error
 from ._flags import RegexFlag
 from ._library import Options
 from ._readings import Reading
 from ._templates import Template
-from ._texts import plain
+from ._texts import LATIN1, STR, UTF8, mapped, plain, plain_bytes
 
 Group = Union[int, str]
-Replacement = Union[str, Callable[[Any], Optional[str]]]
+# a text or bytes, as the pattern is
+AnyString = Union[str, bytes]
+Replacement = Union[AnyString, Callable[[Any], Optional[AnyString]]]
+CODES = {LATIN1: "latin-1", UTF8: "utf-8"}
 
 
 def numbered(names: Iterable[Optional[str]]) -> Tuple[Dict[str, Tuple[int, ...]], Mapping[str, int]]:
@@ -32,7 +36,7 @@ def add(kind: Any, rest: type) -> None:
 
 
 class MatchRest:
-    """A match, with its groups. Positions are in characters of the string, from 0.
+    """A match, with its groups. Positions are in characters of the string, from 0, or in bytes.
 
     re           the pattern
     string       the string
@@ -45,7 +49,7 @@ class MatchRest:
 
     __slots__ = ()
 
-    def expand(self, template: str) -> str:
+    def expand(self, template: AnyString) -> AnyString:
         """The template with each reference to a group (`\\1`, `\\g<name>`) replaced by what the group captured.
 
         Raises `error` if the template cannot be read.
@@ -68,12 +72,13 @@ class MatchRest:
 class PatternRest:
     """A compiled pattern; `compile` makes it. Several threads may search with one at the same time.
 
-    pattern     the pattern, as a string
+    pattern     the pattern, as a string or as bytes
     flags       the flags
     groups      how many groups it has, without group 0
     groupindex  the number of the first group with each name
 
-    Each search takes `pos` and `endpos`, in characters. The text before pos is there for look-behind, `\\b` and `^`; what
+    A string is searched by a pattern that is a string, and bytes, or what has a buffer of them, by one of bytes. Each search
+    takes `pos` and `endpos`, in characters or bytes. The text before pos is there for look-behind, `\\b` and `^`; what
     follows endpos is not. A search that exceeds a limit raises `LimitError`, and out of memory is `MemoryError`.
     """
 
@@ -89,17 +94,24 @@ class PatternRest:
         # no parenthesis more, since a pattern may nest as deep as is allowed; the tree is one level deeper
         return self._reading().with_each_branch("\\z"), self._options.nesting_deeper(1)
 
-    def _template(self, text: str) -> Template:
-        if not isinstance(text, str):
-            raise TypeError(f"a replacement is a string or a function, not {type(text).__name__!r}")
-        text = plain(text)
-        templates: Dict[str, Template] = self._cache.setdefault("templates", {})
-        template = templates.get(text)
-        if template is None:
-            if len(templates) >= 64:
-                templates.clear()
-            template = templates[text] = Template(text, self.groups, self.groupindex)
-        return template
+    def _templates(self) -> Dict[Any, Template]:
+        """The last templates, with room for one more."""
+        templates: Dict[Any, Template] = self._cache.setdefault("templates", {})
+        if len(templates) >= 64:
+            templates.clear()
+        return templates
+
+    def _template(self, text: Any) -> Template:
+        templates, text = self._templates(), template_text(text, self._reads)
+        if text not in templates and self._reads == STR:
+            templates[text] = Template.of(text, self.groups, self.groupindex)
+        elif text not in templates:
+            templates[text] = Template.of_bytes(text, CODES[self._reads], self.groups, self.groupindex)
+        return templates[text]
+
+    def _twin(self) -> "PatternRest":
+        """What is searched for in texts with lone surrogates, which are others then."""
+        return self
 
     def _reading(self) -> Reading:
         read = self._cache.get("reading")
@@ -110,7 +122,7 @@ class PatternRest:
     # ---- As a value
 
     def _key(self) -> Tuple[Any, ...]:
-        return self.pattern, self.flags, self._options
+        return self._reads, self.pattern, self.flags, self._options
 
     def __eq__(self, other: object) -> bool:
         return self._key() == other._key() if type(other) is type(self) else NotImplemented
@@ -129,14 +141,64 @@ class PatternRest:
         return self
 
     def __reduce__(self) -> Tuple[Any, ...]:
-        return rebuilt, (self.pattern, int(self.flags), dict(self._options.given))
+        return made, (self.pattern, int(self.flags), dict(self._options.given))
 
     def __class_getitem__(cls, kind: Any) -> Any:
         return cls
 
 
-def rebuilt(pattern: str, flags: int, options: Mapping[str, Any]) -> Any:
-    """A pattern that was pickled."""
+def template_text(text: Any, reads: int) -> Any:
+    """What a caller gave as a template, as a plain string or as bytes."""
+    if reads == STR and isinstance(text, str):
+        return plain(text)
+    if reads == STR or isinstance(text, str):
+        raise TypeError(f"a replacement is {'a string' if reads == STR else 'bytes'} or a function, not {type(text).__name__!r}")
+    try:
+        return plain_bytes(text)
+    except TypeError:
+        raise TypeError(f"a replacement is bytes or a function, not {type(text).__name__!r}") from None
+
+
+def made(pattern: Any, flags: int, given: Mapping[str, Any]) -> Any:
+    """A plain string or bytes, compiled."""
+    options = Options.of(RegexFlag(flags), given)
+    if isinstance(pattern, str):
+        if options.is_utf8:
+            raise ValueError("utf8 is an option of patterns over bytes")
+        return _made(pattern, flags, options, mapped(pattern), STR)
+    reads = UTF8 if options.is_utf8 else LATIN1
+    text = pattern.decode(CODES[reads])
+    try:
+        return _over_ascii(pattern, flags, options, text, reads) if reads == LATIN1 else _made(pattern, flags, options, text, reads)
+    except error as fault:
+        raise fault.over(pattern, CODES[reads]) from None
+
+
+def _made(pattern: Any, flags: int, options: Options, text: str, reads: int) -> Any:
     from ._objects import Pattern
 
-    return Pattern(pattern, RegexFlag(flags), options)
+    try:
+        return Pattern(pattern, RegexFlag(flags), options, None if text is pattern else text, None, False, reads)
+    except error as fault:
+        # under A the engine has no class that matches beyond ASCII
+        if not flags & RegexFlag.ASCII or fault.name != "InnerError":
+            raise
+        return _over_ascii(pattern, flags, options, text, reads)
+
+
+def _over_ascii(pattern: Any, flags: int, options: Options, text: str, reads: int) -> Any:
+    """A pattern that is written so that only ASCII letters are letters."""
+    from ._objects import Pattern
+
+    options = options.with_(ascii=False)
+    written = Reading(text, options.is_verbose()).over_ascii(bool(flags & RegexFlag.IGNORECASE))
+    try:
+        return Pattern(pattern, RegexFlag(flags), options, written, None, False, reads)
+    except error as fault:
+        refused = fault
+    # why it is refused as it was given
+    try:
+        Pattern(text, RegexFlag.NOFLAG, options)
+    except error as fault:
+        raise fault from None
+    raise refused

@@ -4,12 +4,13 @@ from __future__ import annotations
 
 import sys
 from threading import Lock
-from typing import Iterable, Iterator, NamedTuple, Optional
+from typing import Any, Iterable, Iterator, NamedTuple, Optional
 
 from ._errors import LimitError
 from ._library import Patterns, row_width
 from ._objects import Match, Pattern, RePattern, found
-from ._texts import text_of
+from ._rest import AnyString
+from ._texts import STR, plain_bytes, text_of
 
 # For how many numbers a call has room, at most, or for one match.
 _MOST_ROOM = 1 << 17
@@ -39,31 +40,50 @@ class Scanner:
     """
 
     __module__ = "fancy"
-    __slots__ = ("patterns", "_patterns", "_groups", "_lock", "__weakref__")
+    __slots__ = ("patterns", "_reads", "_of_texts", "_groups", "_lock", "__weakref__")
 
     def __init__(self, patterns: Iterable[Pattern]) -> None:
         self.patterns = tuple(patterns)
-        self._patterns = Patterns()
         for pattern in self.patterns:
             if not isinstance(pattern, (Pattern, RePattern)):
                 raise TypeError(f"a scanner is made of patterns that were compiled, not of {type(pattern).__name__!r}")
-            self._patterns.add(pattern._text, pattern._options)
+        kinds = {pattern._reads for pattern in self.patterns} or {STR}
+        if len(kinds) > 1:
+            raise TypeError("the patterns of a scanner read texts in several ways")
+        (self._reads,) = kinds
+        self._of_texts = {False: self._added(self.patterns)}
         self._groups = 1 + max((pattern.groups for pattern in self.patterns), default=0)
         self._lock = Lock()
 
-    def search(self, string: str, pos: int = 0, endpos: int = sys.maxsize) -> Optional[Found]:
+    @staticmethod
+    def _added(patterns: Iterable[Pattern]) -> Patterns:
+        added = Patterns()
+        for pattern in patterns:
+            added.add(pattern._text, pattern._options)
+        return added
+
+    def _patterns_for(self, text: Any) -> Patterns:
+        """The patterns, or what is searched for in their place in texts with lone surrogates."""
+        if text.is_mapped not in self._of_texts:
+            self._of_texts[text.is_mapped] = self._added(pattern._twin() for pattern in self.patterns)
+        return self._of_texts[text.is_mapped]
+
+    def search(self, string: AnyString, pos: int = 0, endpos: int = sys.maxsize) -> Optional[Found]:
         """The first match that begins at pos or later, or None. Raises `LimitError` if a pattern exceeded a limit and no other
         has a match."""
         return next(self._found(string, pos, endpos, 1), None)
 
-    def scan(self, string: str, pos: int = 0, endpos: int = sys.maxsize) -> Iterator[Found]:
+    def scan(self, string: AnyString, pos: int = 0, endpos: int = sys.maxsize) -> Iterator[Found]:
         """An iterator over the matches, from left to right. Each search begins where the match before it ended, or one
         character further if that match was empty. Raises as `search` does."""
         return self._found(string, pos, endpos, _MOST_ROOM // row_width(self._groups))
 
-    def _found(self, string: str, pos: int, endpos: int, most: int) -> Iterator[Found]:
+    def _found(self, string: AnyString, pos: int, endpos: int, most: int) -> Iterator[Found]:
         """Each call has room for twice as many matches as the one before, since each searches for each pattern once more."""
-        text = text_of(string)
+        if self._reads != STR:
+            # a copy of what may be written to meanwhile
+            string = plain_bytes(string)
+        text = text_of(string, self._reads)
         pos, endpos = text.clipped(pos), text.clipped(endpos)
         if pos > endpos:
             return
@@ -71,8 +91,9 @@ class Scanner:
         room, has_more = 1, True
         while has_more:
             with self._lock:
-                rows, count, at, stopped, fault, has_more = self._patterns.scan(text.utf8, end, at, self._groups, room)
-            yield from found(rows, count, row_width(self._groups), self.patterns, string, pos, endpos, Found)
+                patterns = self._patterns_for(text)
+                rows, count, at, stopped, fault, has_more = patterns.scan(text.utf8, end, at, self._groups, room)
+            yield from found(rows, count, row_width(self._groups), self.patterns, string, self._reads, pos, endpos, Found)
             if isinstance(fault, LimitError):
                 raise LimitError(fault.msg, self.patterns[stopped].pattern, None, fault.name)
             if fault is not None:

@@ -2,7 +2,7 @@
 
 from __future__ import annotations
 
-from typing import List, Mapping, Tuple, Union
+from typing import Any, List, Mapping, Sequence, Tuple, Union
 
 from ._errors import error
 
@@ -16,17 +16,31 @@ class Template:
 
     __slots__ = ("parts",)
 
-    def __init__(self, text: str, groups: int, numbers: Mapping[str, int]) -> None:
-        self.parts: List[Union[str, Tuple[Union[int, str]]]] = []
-        reader = _Reader(text, groups, numbers, self.parts)
-        reader.read()
+    def __init__(self, parts: Sequence[Any]) -> None:
+        self.parts = parts
+
+    @classmethod
+    def of(cls, text: str, groups: int, numbers: Mapping[str, int]) -> "Template":
+        parts: List[Union[str, Tuple[Union[int, str]]]] = []
+        _Reader(text, groups, numbers, parts).read()
+        return cls(parts)
+
+    @classmethod
+    def of_bytes(cls, template: bytes, code: str, groups: int, numbers: Mapping[str, int]) -> "Template":
+        """The same of bytes, whose names of groups are of this code."""
+        try:
+            parts = cls.of(template.decode(code, "surrogateescape"), groups, numbers).parts
+        except error as fault:
+            raise error(fault.msg, template, fault.pos) from None
+        return cls([part.encode(code, "surrogateescape") if isinstance(part, str) else part for part in parts])
 
     def asks_for_groups(self) -> bool:
         """Whether it writes what another group than 0 captured."""
-        return any(part != (0,) for part in self.parts if not isinstance(part, str))
+        return any(part != (0,) for part in self.parts if isinstance(part, tuple))
 
-    def expand(self, match) -> str:
-        return "".join(part if isinstance(part, str) else match[part[0]] or "" for part in self.parts)
+    def expand(self, match: Any) -> Any:
+        empty: Any = "" if isinstance(match.string, str) else b""
+        return empty.join(match[part[0]] or empty if isinstance(part, tuple) else part for part in self.parts)
 
 
 class _Reader:

@@ -14,6 +14,8 @@ from typing import Any, Callable, Dict, Iterable, List, Optional, Tuple
 
 import _sre
 
+from ._texts import MAPPED
+
 try:
     from re import _compiler as sre_compile
     from re import _constants as constants
@@ -41,8 +43,9 @@ CATEGORIES = {
     "CATEGORY_WORD": (WORDS, False),
     "CATEGORY_NOT_WORD": (WORDS, True),
 }
+ESCAPES = dict(zip(CATEGORIES, (rb"\d", rb"\D", rb"\s", rb"\S", rb"\w", rb"\W")))
 PLAIN_CODES = ("UTF-8", "ANSI_X3.4-1968", "US-ASCII")
-NOTHING, ANYTHING = "(?!)", "(?s:.)"
+NOTHING, ANYTHING = r"[^\x{0}-\x{10ffff}]", "(?s:.)"
 # Before 3.14 `\\B` did not hold in an empty text.
 NO_BOUNDARY = "" if sys.version_info >= (3, 14) else r"(?!\A\z)"
 
@@ -70,24 +73,51 @@ def written(code: int) -> str:
     return letter if letter.isascii() and letter.isalnum() else f"\\x{{{code:x}}}"
 
 
-def ranges(items: Iterable[Tuple[int, int]]) -> str:
-    """Ranges of characters in a class. A text has no surrogates, so they are left out."""
+def ranges(items: Iterable[Tuple[int, int]], is_mapped: bool) -> str:
+    """Ranges of characters in a class. A text has no surrogates, so they are left out; or it has, and they are others."""
     parts = []
     for first, last in items:
-        if first == last and not 0xD800 <= first <= 0xDFFF:
+        if first == last and not is_surrogate(first, is_mapped):
             parts.append(written(first))
             continue
-        for low, high in ((first, min(last, 0xD7FF)), (max(first, 0xE000), min(last, LAST))):
+        others = (max(first, 0xD800) + MAPPED - 0xD800, min(last, 0xDFFF) + MAPPED - 0xD800) if is_mapped else (1, 0)
+        for low, high in ((first, min(last, 0xD7FF)), (max(first, 0xE000), min(last, MAPPED - 1 if is_mapped else LAST)), others):
             if low <= high:
                 parts.append(written(low) + ("" if low == high else "-" + written(high)))
     return "".join(parts)
 
 
-class Writer:
-    """Writes what the parser read. `flags` are those of the pattern."""
+def is_surrogate(code: int, is_mapped: bool) -> bool:
+    """Whether a character is a surrogate, or is one of those that stand for them."""
+    return 0xD800 <= code <= 0xDFFF or is_mapped and code >= MAPPED
 
-    def __init__(self, flags: int) -> None:
+
+def has_byte(items: List[Tuple[Any, Any]], code: int) -> bool:
+    """Whether a byte is in a class of bytes, with regard to case."""
+    is_in = False
+    for op, value in items:
+        if op is constants.CATEGORY:
+            is_in |= re.match(ESCAPES[str(value)], bytes([code])) is not None
+        elif op is not constants.NEGATE:
+            first, last = (value, value) if op is constants.LITERAL else value
+            is_in |= first <= code <= last
+    return is_in != any(op is constants.NEGATE for op, _ in items)
+
+
+def either_case(items: List[Tuple[Any, Any]]) -> List[Tuple[Any, Any]]:
+    """The bytes that a class takes without regard to case under LOCALE: those of which either case is in it. So `[^ab]` takes an
+    `a` there, since it takes an `A`."""
+    cases = (f"{chr(code)}{chr(code).swapcase() if code < 128 else ''}" for code in range(256))
+    return [(constants.LITERAL, ord(it[0])) for it in cases if any(has_byte(items, ord(letter)) for letter in it)]
+
+
+class Writer:
+    """Writes what the parser read. `flags` are those of the pattern; it may be written for texts with lone surrogates."""
+
+    def __init__(self, flags: int, is_mapped: bool = False, captures: bool = True) -> None:
         self.flags = flags
+        self.is_mapped = is_mapped
+        self.captures = captures
 
     # ---- characters
 
@@ -115,10 +145,16 @@ class Writer:
                 inner += self.category(str(value), flags)
             else:
                 first, last = (value, value) if op is constants.LITERAL else value
-                inner += ranges(self.letters(first, last, flags))
+                inner += ranges(self.letters(first, last, flags), self.is_mapped)
         if not inner:
             return ANYTHING if negated else NOTHING
         return f"[{'^' if negated else ''}{inner}]"
+
+    def one_of(self, items: List[Tuple[Any, Any]], flags: int) -> str:
+        """A class that is written in brackets."""
+        if flags & LOCALE and flags & IGNORECASE:
+            return self.a_class(either_case(items), flags & ~IGNORECASE)
+        return self.a_class(items, flags)
 
     # ---- places
 
@@ -155,9 +191,10 @@ class Writer:
         types = ASCII | UNICODE | LOCALE
         flags = (flags & ~types if added & types else flags) | added
         body = self.sequence(items, flags & ~removed)
-        return f"({'?:' if number is None else ''}{body})"
+        return f"({'' if number is not None and self.captures else '?:'}{body})"
 
     def condition(self, number: int, yes: Any, no: Any, flags: int) -> str:
+        self.refer()
         otherwise = "" if no is None else self.sequence(no, flags)
         return f"(?({number})(?:{self.sequence(yes, flags)})|(?:{otherwise}))"
 
@@ -169,12 +206,18 @@ class Writer:
             raise re.error("looks too much behind" if least > MAXCODE else "look-behind requires fixed-width pattern")
         return f"(?{'<' if direction < 0 else ''}{opening}(?>{self.sequence(items, flags)}))"
 
+    def refer(self) -> None:
+        if not self.captures:
+            raise re.error("a pattern of a Scanner has no references to groups")
+
     def reference(self, number: int, flags: int) -> str:
+        self.refer()
         return f"(?i:\\{number})" if flags & IGNORECASE else f"(?:\\{number})"
 
     def item(self, op: Any, value: Any, flags: int) -> str:
         if op is constants.LITERAL:
-            return self.a_class([(op, value)], flags) if flags & IGNORECASE or 0xD800 <= value <= 0xDFFF else written(value)
+            is_class = flags & IGNORECASE or is_surrogate(value, self.is_mapped)
+            return self.a_class([(op, value)], flags) if is_class else written(value)
         if op is constants.NOT_LITERAL:
             return self.a_class([(constants.NEGATE, None), (constants.LITERAL, value)], flags)
         if op is constants.ANY:
@@ -222,7 +265,7 @@ def is_word(item: Any, at_start: bool) -> bool:
 
 # How each of the others is written.
 WRITERS: Dict[str, Callable[[Writer, Any, int], str]] = {
-    "IN": Writer.a_class,
+    "IN": Writer.one_of,
     "AT": lambda to, at, flags: to.place(str(at), flags),
     "BRANCH": lambda to, value, flags: "(?:" + "|".join(to.sequence(it, flags) for it in value[1]) + ")",
     "SUBPATTERN": lambda to, value, flags: to.group(*value, flags),
@@ -243,7 +286,7 @@ def read(pattern: Any, flags: int) -> Any:
     return sre_parse.parse(pattern, flags)
 
 
-def translated(items: Any, flags: int) -> Tuple[str, int]:
+def translated(items: Any, flags: int, is_mapped: bool = False) -> Tuple[str, int]:
     """The text of a pattern that was read, and its flags. Raises what `re.compile` raises."""
     flags |= items.state.flags
     if flags & DEBUG:
@@ -251,4 +294,4 @@ def translated(items: Any, flags: int) -> Tuple[str, int]:
         sre_compile.compile(items, flags)
     if flags & LOCALE and locale.nl_langinfo(locale.CODESET) not in PLAIN_CODES:
         raise re.error("the flag LOCALE is only there where bytes beyond ASCII are no letters, as in UTF-8")
-    return Writer(flags).sequence(items, flags), flags
+    return Writer(flags, is_mapped).sequence(items, flags), flags

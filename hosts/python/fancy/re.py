@@ -7,31 +7,39 @@
     '<1>2y'
 
 A pattern is read by the parser of the Python that runs, so it means what it means there; `error` and the flags are those of
-`re`. Searches have the limits of this package, and raise its `LimitError`. Left out are the flag LOCALE, `Scanner`, and texts
-with a lone surrogate, which raise an UnicodeEncodeError. Patterns over bytes are there; they are slower.
+`re`. Searches have the limits of this package, and raise its `LimitError`. Left out is the flag LOCALE where bytes beyond ASCII
+are letters. A text with lone surrogates and with characters from U+10F800 on raises a UnicodeEncodeError.
 """
 
 from __future__ import annotations
 
 import re as _re
 import sys
+import warnings as _warnings
+from functools import wraps as _wraps
 from re import (  # noqa: F401
     A, ASCII, DEBUG, DOTALL, I, IGNORECASE, L, LOCALE, M, MULTILINE, S, U, UNICODE, VERBOSE, X, RegexFlag, error, escape,
 )  # fmt: skip
-from typing import Any, Callable, Dict, Iterator, List, Optional, Tuple
+from typing import Any, Dict, Iterator, List, Optional, Tuple
 
 from ._errors import error as _refused
 from ._library import Options as _Options
+from ._objects import add_to_re as _add
 from ._objects import ReMatch as Match
 from ._objects import RePattern as Pattern
 from ._objects import re_pattern as _re_pattern
-from ._rest import add as _add
+from ._rest import template_text as _template_text
+from ._templates import Template as _Template
+from ._texts import LATIN1 as _LATIN1
+from ._texts import STR as _STR
+from ._translation import Writer as _Writer
 from ._translation import read as _read
 from ._translation import sre_parse as _parser
 from ._translation import translated as _translated
 
 NOFLAG = getattr(_re, "NOFLAG", RegexFlag(0))
-T = TEMPLATE = getattr(_re, "TEMPLATE", RegexFlag(1))
+if hasattr(_re, "TEMPLATE"):
+    T = TEMPLATE = _re.TEMPLATE
 
 __all__ = [
     "A", "ASCII", "DEBUG", "DOTALL", "I", "IGNORECASE", "L", "LOCALE", "M", "MULTILINE", "Match", "NOFLAG", "Pattern", "RegexFlag", "S",
@@ -53,21 +61,6 @@ def _parts(read: Any) -> List[Any]:
     return [part for part in parts if part is not None]
 
 
-class _Template:
-    """A template that was read, as `_templates.Template` has it."""
-
-    __slots__ = ("parts",)
-
-    def __init__(self, read: Any) -> None:
-        self.parts = [(part,) if isinstance(part, int) else part for part in _parts(read)]
-
-    def asks_for_groups(self) -> bool:
-        return any(part != (0,) for part in self.parts if not isinstance(part, str))
-
-    def expand(self, match: Any) -> str:
-        return "".join(part if isinstance(part, str) else match[part[0]] or "" for part in self.parts)
-
-
 def _flags_text(flags: int, is_bytes: bool) -> str:
     """The flags of a pattern, as `re` writes them."""
     if not is_bytes and flags & int(L | A | U) == U:
@@ -84,16 +77,25 @@ def _flags_text(flags: int, is_bytes: bool) -> str:
 
 
 class _OfPattern:
-    def _template(self, text: str) -> _Template:
-        if not isinstance(text, str):
-            raise TypeError(f"a replacement is a string or a function, not {type(text).__name__!r}")
-        templates: Dict[str, _Template] = self._cache.setdefault("templates", {})
-        template = templates.get(text)
-        if template is None:
-            if len(templates) >= 64:
-                templates.clear()
-            template = templates[text] = _Template(_parser.parse_template(text, self))
-        return template
+    def _template(self, text: Any) -> _Template:
+        templates, text = self._templates(), _template_text(text, self._reads)
+        if text not in templates:
+            # warnings of the parser name who calls the caller
+            parts = _parts(_parser.parse_template(text, self))
+            templates[text] = _Template([(part,) if isinstance(part, int) else part for part in parts])
+        return templates[text]
+
+    def _twin(self) -> Any:
+        """The pattern as it is written for texts with lone surrogates."""
+        if not isinstance(self.pattern, str):
+            return self
+        flags = int(self.flags) & ~int(DEBUG)
+        with _warnings.catch_warnings():
+            _warnings.simplefilter("ignore")
+            text, _ = _translated(_read(self.pattern, flags), flags, is_mapped=True)
+        if text == self._text:
+            return self
+        return _re_pattern(self.pattern, flags, _OPTIONS, text, self._names, self._is_adjacent)
 
     def __repr__(self) -> str:
         flags = _flags_text(self.flags, isinstance(self.pattern, bytes))
@@ -102,10 +104,9 @@ class _OfPattern:
     def __reduce__(self) -> Tuple[Any, ...]:
         return _compiled, (self.pattern, self.flags)
 
-
     def scanner(self, string: Any, pos: int = 0, endpos: int = sys.maxsize) -> "Scans":
         """The matches one by one: `search` gives the next one, and `match` the one that follows directly."""
-        return Scans(self, string, pos, endpos)
+        return Scans._of(self, string, pos, endpos)
 
 
 class _OfMatch:
@@ -113,14 +114,26 @@ class _OfMatch:
         return f"<{type(self).__module__}.{type(self).__qualname__} object; span={self.span()}, match={self[0]!r}>"
 
 
-class Scans:
+class _Fixed(type):
+    """The type of a class that cannot be changed."""
+
+    def __setattr__(cls, name: str, value: Any) -> None:
+        raise TypeError(f"cannot set {name!r} attribute of immutable type {cls.__qualname__!r}")
+
+
+class Scans(metaclass=_Fixed):
     """What `Pattern.scanner` gives."""
 
     __slots__ = ("pattern", "_string", "_at", "_endpos", "_was_empty")
 
-    def __init__(self, pattern: Any, string: Any, pos: int, endpos: int) -> None:
-        self.pattern, self._string, self._endpos, self._was_empty = pattern, string, endpos, False
-        self._at: Optional[int] = pos
+    def __new__(cls, *given: Any, **named: Any) -> "Scans":
+        raise TypeError(f"cannot create '{cls.__module__}.{cls.__name__}' instances")
+
+    @classmethod
+    def _of(cls, pattern: Any, string: Any, pos: int, endpos: int) -> "Scans":
+        scans = object.__new__(cls)
+        scans.pattern, scans._string, scans._at, scans._endpos, scans._was_empty = pattern, string, pos, endpos, False
+        return scans
 
     def _taken(self, found: Any) -> Any:
         if found is None:
@@ -147,8 +160,7 @@ class Scans:
         return self._taken(found if found is not None and found.start() == at else None)
 
 
-_add(Pattern, _OfPattern)
-_add(Match, _OfMatch)
+_add(_OfPattern, _OfMatch)
 
 
 # ---- compiling
@@ -164,11 +176,14 @@ def _made(pattern: Any, items: Any, flags: int) -> Any:
     names: List[Optional[str]] = [None] * items.state.groups
     for name, number in items.state.groupdict.items():
         names[number] = name
+    return _refusing(pattern, flags, text, tuple(names), items.getwidth()[0] == 0, _STR if isinstance(pattern, str) else _LATIN1)
+
+
+def _refusing(pattern: Any, flags: int, text: str, *others: Any) -> Any:
     try:
-        made = _re_pattern(pattern, flags, _OPTIONS, text, tuple(names), items.getwidth()[0] == 0)
+        return _re_pattern(pattern, flags, _OPTIONS, text, *others)
     except _refused as fault:
         raise error(f"{fault.msg} ({fault.name}), as fancy.re writes it: {text}", pattern) from None
-    return made if isinstance(pattern, str) else BytesPattern(made, pattern)
 
 
 def _compiled(pattern: Any, flags: int = 0) -> Any:
@@ -176,18 +191,24 @@ def _compiled(pattern: Any, flags: int = 0) -> Any:
     made = _kept.get((type(pattern), pattern, flags))
     if made is not None:
         return made
-    if isinstance(pattern, (Pattern, BytesPattern)):
+    if isinstance(pattern, Pattern):
         if flags:
             raise ValueError("cannot process flags argument with a compiled pattern")
         return pattern
     if not isinstance(pattern, (str, bytes)):
         raise TypeError("first argument must be string or compiled pattern")
+    if flags & 1 and hasattr(_re, "template"):
+        _deprecated("The re.TEMPLATE/re.T flag is deprecated as it is an undocumented flag without an obvious purpose. Don't use it.")
     made = _made(pattern, _read(pattern, flags), flags)
     if not flags & DEBUG:
         if len(_kept) >= _MOST_KEPT:
             _kept.clear()
         _kept[type(pattern), pattern, flags] = made
     return made
+
+
+def _deprecated(message: str) -> None:
+    _warnings.warn(message, DeprecationWarning, stacklevel=4)
 
 
 def compile(pattern: Any, flags: int = 0) -> Any:
@@ -235,147 +256,76 @@ def subn(pattern: Any, repl: Any, string: Any, count: int = 0, flags: int = 0) -
     return _compiled(pattern, flags).subn(repl, string, count)
 
 
+def _last_by_name(function: Any, places: int, count: str) -> Any:
+    """A function as Python 3.13 has it: of its arguments `count` and the flags are deprecated by place."""
+    name, names = function.__name__, (count, "flags")
+
+    @_wraps(function)
+    def called(*given: Any, **named: Any) -> Any:
+        for of in names[: max(0, len(given) - places)]:
+            if of in named:
+                raise TypeError(f"{name}() got multiple values for argument {of!r}")
+        if len(given) > places + 2:
+            raise TypeError(f"{name}() takes from {places} to {places + 2} positional arguments but {len(given)} were given")
+        if len(given) > places:
+            _warnings.warn(f"{count!r} is passed as positional argument", DeprecationWarning, stacklevel=2)
+        return function(*given, **named)
+
+    return called
+
+
+if sys.version_info >= (3, 13):
+    sub, subn, split = _last_by_name(sub, 3, "count"), _last_by_name(subn, 3, "count"), _last_by_name(split, 2, "maxsplit")
+
+
 def purge() -> None:
     """Forgets the patterns that were kept."""
     _kept.clear()
 
 
-# ---- bytes: each byte is the character with its number
+if hasattr(_re, "template"):
+
+    def template(pattern: Any, flags: int = 0) -> Any:
+        """A pattern, compiled with the flag TEMPLATE; deprecated in `re`."""
+        _deprecated(
+            "The re.template() function is deprecated as it is an undocumented function without an obvious purpose."
+            " Use re.compile() instead."
+        )
+        with _warnings.catch_warnings():
+            _warnings.simplefilter("ignore", DeprecationWarning)
+            return _compiled(pattern, flags | TEMPLATE)
 
 
-def _text(string: Any) -> str:
-    if isinstance(string, str):
-        raise TypeError("cannot use a bytes pattern on a string-like object")
-    try:
-        return str(memoryview(string).cast("B") if not isinstance(string, bytes) else string, "latin-1")
-    except TypeError:
-        raise TypeError(f"expected string or bytes-like object, got {type(string).__name__!r}") from None
+class Scanner:
+    """What `re` has under this name, without a word in its documents: the tokens of a text by a list of patterns.
 
+    Groups of a pattern capture nothing here.
 
-def _bytes(text: Optional[str]) -> Any:
-    return text.encode("latin-1") if isinstance(text, str) else text
+        >>> Scanner([("[0-9]+", lambda scanner, token: int(token)), (r"\\s+", None)]).scan("1 22 x")
+        ([1, 22], 'x')
+    """
 
+    def __init__(self, lexicon: Any, flags: int = 0) -> None:
+        flags = int(flags)
+        self.lexicon = lexicon
+        phrases = [phrase for phrase, _ in lexicon]
+        writer = _Writer(flags, captures=False)
+        text = "|".join(f"({writer.sequence(_parser.parse(it, flags), flags)})" for it in phrases)
+        reads = _LATIN1 if phrases and isinstance(phrases[0], bytes) else _STR
+        self.scanner = _refusing(None, flags, text, (None,) * (len(phrases) + 1), True, reads)
+        self.match: Any = None
 
-class BytesMatch:
-    """A match of a pattern over bytes: where it is in its text, and groups that are bytes of what was searched."""
-
-    __slots__ = ("re", "string", "_of")
-
-    def __init__(self, pattern: "BytesPattern", string: Any, of: Any) -> None:
-        self.re, self.string, self._of = pattern, string, of
-
-    def __getattr__(self, name: str) -> Any:
-        if name not in ("pos", "endpos", "regs", "lastindex", "lastgroup", "start", "end", "span"):
-            raise AttributeError(name)
-        return getattr(self._of, name)
-
-    def __getitem__(self, group: Any) -> Any:
-        start, end = self._of.span(group)
-        return None if start < 0 else _part(self.string, start, end)
-
-    def group(self, *groups: Any) -> Any:
-        if len(groups) > 1:
-            return tuple(map(self.__getitem__, groups))
-        return self[groups[0] if groups else 0]
-
-    def groups(self, default: Any = None) -> Tuple[Any, ...]:
-        return tuple(default if self[it] is None else self[it] for it in range(1, len(self._of.regs)))
-
-    def groupdict(self, default: Any = None) -> Dict[str, Any]:
-        return {name: default if self[it] is None else self[it] for name, it in self.re.groupindex.items()}
-
-    def expand(self, template: bytes) -> bytes:
-        return _expanded(_parts(_parser.parse_template(template, self.re)), self)
-
-    def __copy__(self) -> "BytesMatch":
-        return self
-
-    def __deepcopy__(self, memo: Any) -> "BytesMatch":
-        return self
-
-    __repr__ = _OfMatch.__repr__
-
-
-def _part(string: Any, start: int, end: int) -> bytes:
-    return string[start:end] if type(string) is bytes else bytes(memoryview(string).cast("B")[start:end])
-
-
-def _expanded(parts: List[Any], match: BytesMatch) -> bytes:
-    return b"".join(match[part] or b"" if isinstance(part, int) else part for part in parts)
-
-
-def _held(view: Any, matches: Iterator[Any]) -> Iterator[Any]:
-    yield from matches
-    view.release()
-
-
-class BytesPattern:
-    """A compiled pattern over bytes."""
-
-    __slots__ = ("pattern", "flags", "groups", "groupindex", "_of", "__weakref__")
-
-    def __init__(self, of: Any, pattern: bytes) -> None:
-        self._of, self.pattern = of, pattern
-        self.flags, self.groups, self.groupindex = of.flags, of.groups, of.groupindex
-
-    def _match(self, string: Any, of: Any) -> Optional[BytesMatch]:
-        return None if of is None else BytesMatch(self, string, of)
-
-    def search(self, string: Any, pos: int = 0, endpos: int = sys.maxsize) -> Any:
-        return self._match(string, self._of.search(_text(string), pos, endpos))
-
-    def match(self, string: Any, pos: int = 0, endpos: int = sys.maxsize) -> Any:
-        return self._match(string, self._of.match(_text(string), pos, endpos))
-
-    def fullmatch(self, string: Any, pos: int = 0, endpos: int = sys.maxsize) -> Any:
-        return self._match(string, self._of.fullmatch(_text(string), pos, endpos))
-
-    def finditer(self, string: Any, pos: int = 0, endpos: int = sys.maxsize) -> Iterator[Any]:
-        return self._matches(memoryview(string) if not isinstance(string, str) else None, string, pos, endpos)
-
-    def _matches(self, view: Any, string: Any, pos: int, endpos: int) -> Iterator[Any]:
-        """The view keeps who has the buffer from changing its size."""
-        found = self._of.finditer(_text(string), pos, endpos)
-        return _held(view, map(lambda it: BytesMatch(self, string, it), found))
-
-    def findall(self, string: Any, pos: int = 0, endpos: int = sys.maxsize) -> List[Any]:
-        found = self._of.findall(_text(string), pos, endpos)
-        return [tuple(map(_bytes, it)) if isinstance(it, tuple) else _bytes(it) for it in found]
-
-    def split(self, string: Any, maxsplit: int = 0) -> List[Any]:
-        return [*map(_bytes, self._of.split(_text(string), maxsplit))]
-
-    def sub(self, repl: Any, string: Any, count: int = 0) -> bytes:
-        return self.subn(repl, string, count)[0]
-
-    def subn(self, repl: Any, string: Any, count: int = 0) -> Tuple[bytes, int]:
-        if callable(repl):
-            write: Callable[[BytesMatch], Any] = repl
-        else:
-            parts = _parts(_parser.parse_template(repl, self))
-            write = lambda it: _expanded(parts, it)  # noqa: E731
-        text, number = self._of.subn(lambda it: _written(write(BytesMatch(self, string, it))), _text(string), count)
-        return text.encode("latin-1"), number
-
-    _key = property(lambda self: (self.pattern, self.flags))
-
-    def __eq__(self, other: object) -> bool:
-        return self._key == other._key if isinstance(other, BytesPattern) else NotImplemented
-
-    def __hash__(self) -> int:
-        return hash(self._key)
-
-    def __copy__(self) -> "BytesPattern":
-        return self
-
-    def __deepcopy__(self, memo: Any) -> "BytesPattern":
-        return self
-
-    __repr__ = _OfPattern.__repr__
-    __reduce__ = _OfPattern.__reduce__
-    scanner = _OfPattern.scanner
-
-
-def _written(answer: Any) -> Optional[str]:
-    """What a function wrote for a match of bytes, as a text."""
-    return None if answer is None else str(memoryview(answer), "latin-1")
+    def scan(self, string: Any) -> Tuple[List[Any], Any]:
+        """What the actions of the patterns return for each token, and what is left of the text."""
+        found, at = [], 0
+        while True:
+            token = self.scanner.match(string, at)
+            if token is None or token.end() == at:
+                return found, string[at:]
+            action = self.lexicon[token.lastindex - 1][1]
+            if callable(action):
+                self.match = token
+                action = action(self, token.group())
+            if action is not None:
+                found.append(action)
+            at = token.end()

@@ -16,6 +16,7 @@
 #include <string.h>
 
 #include "fancy.h"
+#include "fancy_bytes.h"
 /* the macros for null pointers, which no call here passes */
 #undef fancy_compile_pattern
 #undef fancy_find
@@ -49,29 +50,40 @@ enum help {
     HELP_CLOSINGS,  /* (pattern object) -> three numbers for each group, one after another: see match_last */
     HELP_TEMPLATE,  /* (pattern object, text) -> the parts of a template: texts, numbers, tuples of numbers */
     HELP_COMPILE,   /* (pattern, flags) -> a pattern object */
+    HELP_TWIN,      /* (pattern object) -> what is searched for in texts with lone surrogates: it, or another */
     HELPS
 };
 
-/* A text of which a part is searched; `string` is borrowed from who calls. */
+/* How the texts of a pattern are read: a `str`; bytes, each of which is a character; bytes that are UTF-8, but for some. */
+enum reads { READS_STR, READS_LATIN1, READS_UTF8 };
+
+/* What was read of a string of the caller's, where its own memory is not the text or does not find places. It is freed when
+ * nobody uses it. `copy` and `view` are of a buffer that was copied. */
+struct kept {
+    size_t uses;
+    struct fancy_bytes read;
+    PyObject *copy, *view;
+};
+
+/* A text of which a part is searched; `string` is borrowed from who calls. Places of the caller's are characters of a `str`,
+ * or bytes, and then `bytes` is where they are. `is_mapped` says that it has lone surrogates. */
 struct text {
     PyObject *string;
     const char *utf8;
     size_t length;
     Py_ssize_t characters;
+    const char *bytes;
+    bool is_mapped;
+    struct kept *kept;
 };
 
-/* Of a long text, how many characters begin before each byte that STEP divides. It is freed when nobody uses it. */
-struct table {
-    size_t uses;
-    size_t before[];
-};
-
-/* A text in which places were looked up. */
+/* A string of which something is kept. */
 struct places {
     PyObject *string;
-    struct table *table;
+    enum reads reads;
+    struct kept *kept;
 };
-enum { STEP = 128, TEXTS_KEPT = 8, PATTERNS_KEPT = 512 };
+enum { TEXTS_KEPT = 8, PATTERNS_KEPT = 512, LONG_BYTES = 1 << 12 };
 
 struct state {
     struct library library;
@@ -80,6 +92,8 @@ struct state {
     /* the objects of the package, and those of its module `re`, which differ in what Python adds to them */
     PyTypeObject *pattern_type, *match_type, *re_pattern_type, *re_match_type;
     PyTypeObject *matches_type;
+    /* classes of Python with what the latter do rarely */
+    PyObject *re_pattern_rest, *re_match_rest;
     struct places places[TEXTS_KEPT];
     int next_places;
     /* the patterns of the last calls without flags, by their texts */
@@ -112,6 +126,7 @@ typedef struct {
     /* what the caller gave, and the text that is compiled */
     PyObject *pattern, *text;
     PyObject *flags, *options, *cache, *numbers, *groupindex;
+    enum reads reads;
     /* of each group its name, or None */
     PyObject *names;
     PyObject *weak;
@@ -125,6 +140,8 @@ typedef struct {
     struct closing *closings;
     /* the last template and its parts */
     PyObject *template, *parts;
+    /* what is searched for in texts with lone surrogates, if that is another pattern */
+    PyObject *twin;
 } Pattern;
 
 typedef struct {
@@ -148,7 +165,7 @@ struct range {
  * whether it was empty. */
 enum { OWN_NUMBERS = 64, MOST_NUMBERS = 1 << 17, LONG_TEXT = 1 << 14 };
 struct list {
-    Pattern *pattern;
+    Pattern *pattern, *searched;
     struct range range;
     struct fancy_cursor cursor;
     Py_ssize_t limit;
@@ -161,12 +178,13 @@ struct list {
 
 /* ---- texts.c */
 
-bool text_of(PyObject *string, struct text *text);
-bool range_of(struct state *state, PyObject *string, PyObject *pos, PyObject *endpos, struct range *range);
-bool take_table(struct state *state, const struct text *text, struct table **table);
-void drop_table(struct table *table);
-Py_ssize_t place_in(const struct text *text, const struct table *table, size_t byte);
+bool text_of(struct state *state, PyObject *string, enum reads reads, struct text *text);
+void drop_kept(struct text *text);
+bool range_of(struct state *state, PyObject *string, enum reads reads, PyObject *pos, PyObject *endpos, struct range *range);
+bool take_index(struct state *state, struct text *text);
+Py_ssize_t place_in(const struct text *text, size_t byte);
 PyObject *piece(const struct text *text, size_t start, size_t end);
+PyObject *slice_of_bytes(PyObject *string, Py_ssize_t start, Py_ssize_t end);
 void forget_texts(struct state *state);
 
 /* ---- programs.c */
@@ -176,10 +194,24 @@ bool compile_programs(struct state *state, struct programs *programs, PyObject *
 bool compile_with(struct state *state, struct programs *programs, PyObject *text);
 void free_programs(struct state *state, struct programs *programs);
 PyObject *raise_fault(Pattern *pattern, struct fancy_outcome outcome);
+Pattern *twin_of(Pattern *pattern);
 int find(Pattern *pattern, struct programs *programs, const struct range *range, bool is_anchored, size_t *spans);
-void open_list(struct list *list, Pattern *pattern, const struct range *range, Py_ssize_t limit, bool with_groups, size_t room);
+bool open_list(struct list *list, Pattern *pattern, const struct range *range, Py_ssize_t limit, bool with_groups, size_t room);
 const size_t *next_row(struct list *list);
 void close_list(struct list *list);
+
+/* Lets go of what a text holds. */
+static inline void close_text(struct text *text)
+{
+    if (text->kept != NULL)
+        drop_kept(text);
+}
+
+/* What is searched for in a text, borrowed; NULL with an error. */
+static inline Pattern *searched_in(Pattern *pattern, const struct text *text)
+{
+    return text->is_mapped ? twin_of(pattern) : pattern;
+}
 
 /* ---- matches.c */
 
@@ -193,6 +225,16 @@ PyObject *new_pattern(PyTypeObject *type, PyObject *given, PyObject *named);
 bool read_arguments(PyObject *const *given, Py_ssize_t count, PyObject *names, const char *const *known, Py_ssize_t least,
                     Py_ssize_t most, PyObject **arguments);
 bool read_count(PyObject *number, Py_ssize_t *count);
+
+/* ---- rest.c */
+
+extern PyMethodDef rest_of_patterns[], rest_of_matches[];
+enum { MOST_METHODS = 32 };
+void join_methods(PyMethodDef *into, const PyMethodDef *first, const PyMethodDef *second);
+PyObject *rest_repr(PyObject *self);
+Py_hash_t rest_hash(PyObject *self);
+PyObject *rest_compare(PyObject *self, PyObject *other, int how);
+PyObject *serve(PyObject *module, PyObject *given);
 
 /* ---- scanning.c */
 

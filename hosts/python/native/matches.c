@@ -1,17 +1,19 @@
-/* matches.c: the objects of a match. Its spans are in bytes at first, and in characters from when they are asked for. */
+/* matches.c: the objects of a match. Its spans are in bytes of the text at first, and in characters from when they are asked
+ * for; those of bytes are the caller's from the first. */
 #include "core.h"
 
-static struct text text_of_match(const Match *match)
+/* Makes the spans those of the caller. */
+static void place_all(Match *match, const struct text *text)
 {
-    struct text text = {NULL, NULL, 0, 0};
-
-    /* it was searched, so its UTF-8 is there */
-    text_of(match->string, &text);
-    return text;
+    for (Py_ssize_t i = 0; i < Py_SIZE(match); i++)
+        if (match->spans[i] >= 0)
+            match->spans[i] = place_in(text, (size_t)match->spans[i]);
+    match->is_placed = true;
 }
 
 PyObject *new_match(Pattern *pattern, const struct range *range, const size_t *spans, size_t groups)
 {
+    const struct text *text = &range->text;
     Match *match = PyObject_GC_NewVar(Match, pattern->match_type, (Py_ssize_t)(2 * groups));
 
     if (match == NULL)
@@ -20,11 +22,14 @@ PyObject *new_match(Pattern *pattern, const struct range *range, const size_t *s
     match->string = Py_NewRef(range->text.string);
     match->pos = range->pos;
     match->endpos = range->endpos;
-    match->is_placed = range->text.length == (size_t)range->text.characters;
     /* FANCY_UNSET is -1 */
     memcpy(match->spans, spans, 2 * groups * sizeof *spans);
+    match->is_placed = text->length == (size_t)text->characters;
+    /* of what is no plain string, the text does not last as long as the match */
+    if (!match->is_placed && (text->is_mapped || text->bytes != NULL))
+        place_all(match, text);
     /* else it is in no ring of references */
-    if (!PyUnicode_CheckExact(match->string))
+    if (!PyUnicode_CheckExact(match->string) && !PyBytes_CheckExact(match->string))
         PyObject_GC_Track(match);
     return (PyObject *)match;
 }
@@ -97,10 +102,14 @@ static PyObject *text_of_group(const Match *match, Py_ssize_t number, PyObject *
 
     if (start < 0)
         return Py_NewRef(unset);
+    if (end < start)
+        end = start;
+    if (match->pattern->reads != READS_STR)
+        return slice_of_bytes(match->string, start, end);
     if (match->is_placed)
-        return PyUnicode_Substring(match->string, start, end > start ? end : start);
-    text = text_of_match(match);
-    return piece(&text, (size_t)start, (size_t)end);
+        return PyUnicode_Substring(match->string, start, end);
+    /* it was searched, so its UTF-8 is there */
+    return text_of(match->pattern->state, match->string, READS_STR, &text) ? piece(&text, (size_t)start, (size_t)end) : NULL;
 }
 
 static PyObject *text_of_named(const Match *match, PyObject *group)
@@ -114,19 +123,15 @@ static PyObject *text_of_named(const Match *match, PyObject *group)
 static bool place_spans(Match *match)
 {
     struct text text;
-    struct table *table;
 
     if (match->is_placed)
         return true;
-    text = text_of_match(match);
-    if (!take_table(match->pattern->state, &text, &table))
+    if (!text_of(match->pattern->state, match->string, READS_STR, &text) || !take_index(match->pattern->state, &text))
         return false;
     /* code of the caller's may have run, and have asked for the same */
-    for (Py_ssize_t i = 0; !match->is_placed && i < Py_SIZE(match); i++)
-        if (match->spans[i] >= 0)
-            match->spans[i] = place_in(&text, table, (size_t)match->spans[i]);
-    match->is_placed = true;
-    drop_table(table);
+    if (!match->is_placed)
+        place_all(match, &text);
+    close_text(&text);
     return true;
 }
 
@@ -288,35 +293,40 @@ static bool read_closings(Pattern *pattern)
     return true;
 }
 
-/* Whether a group closes after another: in a later loop; in the same, further on in the text, or later in the pattern. */
+/* Whether a group closes after another: in a later loop; in the same, if it ends or else begins further on in the text, or later
+ * in the pattern. */
 static bool is_later(const Match *match, size_t group, size_t other)
 {
     const struct closing *a = &match->pattern->closings[group], *b = &match->pattern->closings[other];
-    Py_ssize_t end_a = match->spans[2 * group + 1], end_b = match->spans[2 * other + 1];
+    const Py_ssize_t *span_a = match->spans + 2 * group, *span_b = match->spans + 2 * other;
 
     if (a->loop != b->loop)
         return a->loop > b->loop;
-    return end_a != end_b ? end_a > end_b : a->closed > b->closed;
+    if (span_a[1] != span_b[1])
+        return span_a[1] > span_b[1];
+    return span_a[0] != span_b[0] ? span_a[0] > span_b[0] : a->closed > b->closed;
 }
 
 /* The group that closed last, 0 if none is set, -1 with an error. It is the last one in the pattern, of those in one loop the
- * one that ends last in the text, and of those in one another the outer one. */
+ * one that ends last in the text, or else begins last, and of those in one another the outer one. */
 static Py_ssize_t match_last(const Match *match)
 {
     size_t last = 0, outer, groups = groups_of(match);
     const struct closing *closings;
+    bool are_several = false;
 
     for (size_t group = 1; group < groups; group++) {
         if (match->spans[2 * group] < 0)
             continue;
-        if (last != 0 && !read_closings(match->pattern))
+        are_several = last != 0;
+        if (are_several && !read_closings(match->pattern))
             return -1;
-        if (last == 0 || is_later(match, group, last))
+        if (!are_several || is_later(match, group, last))
             last = group;
     }
     closings = match->pattern->closings;
     outer = last;
-    for (size_t group = 1; closings != NULL && group < groups; group++)
+    for (size_t group = 1; are_several && group < groups; group++)
         if (match->spans[2 * group] >= 0 && closings[group].opened <= closings[last].closed
             && closings[group].closed > closings[outer].closed)
             outer = group;
@@ -387,10 +397,20 @@ static PyType_Slot slots[] = {
 #define FLAGS Py_TPFLAGS_DEFAULT | Py_TPFLAGS_HAVE_GC | Py_TPFLAGS_DISALLOW_INSTANTIATION
 
 static PyType_Spec spec = {"fancy.Match", sizeof(Match), sizeof(Py_ssize_t), FLAGS, slots};
-static PyType_Spec re_spec = {"fancy.re.Match", sizeof(Match), sizeof(Py_ssize_t), FLAGS, slots};
+
+static PyMethodDef re_methods[MOST_METHODS];
+
+static PyType_Slot re_slots[] = {
+    {Py_tp_dealloc, free_match}, {Py_tp_traverse, visit_match}, {Py_tp_methods, re_methods}, {Py_tp_members, members},
+    {Py_tp_getset, getters},     {Py_mp_subscript, match_item}, {Py_tp_repr, rest_repr},
+    {Py_tp_doc, "The result of re.match() and re.search().\nMatch objects always have a boolean value of True."}, {0, NULL},
+};
+
+static PyType_Spec re_spec = {"fancy.re.Match", sizeof(Match), sizeof(Py_ssize_t), FLAGS | Py_TPFLAGS_IMMUTABLETYPE, re_slots};
 
 bool make_matches(PyObject *module, struct state *state)
 {
+    join_methods(re_methods, methods, rest_of_matches);
     state->match_type = (PyTypeObject *)PyType_FromModuleAndSpec(module, &spec, NULL);
     state->re_match_type = (PyTypeObject *)PyType_FromModuleAndSpec(module, &re_spec, NULL);
     return state->match_type != NULL && state->re_match_type != NULL

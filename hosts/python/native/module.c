@@ -63,6 +63,7 @@ static PyMethodDef methods[] = {
     {"_compiled", (PyCFunction)(void (*)(void))compiled, METH_FASTCALL, NULL},
     {"_re_pattern", (PyCFunction)(void (*)(void))re_pattern, METH_VARARGS | METH_KEYWORDS, NULL},
     {"_found", found_rows, METH_VARARGS, NULL},
+    {"_serve", serve, METH_VARARGS, NULL},
     {"_forget", forget, METH_NOARGS, NULL},
     {NULL, NULL, 0, NULL},
 };
@@ -88,6 +89,8 @@ static int visit(PyObject *module, visitproc visit, void *arg)
     Py_VISIT(state->re_pattern_type);
     Py_VISIT(state->re_match_type);
     Py_VISIT(state->matches_type);
+    Py_VISIT(state->re_pattern_rest);
+    Py_VISIT(state->re_match_rest);
     Py_VISIT(state->kept);
     return 0;
 }
@@ -99,6 +102,8 @@ static int clear(PyObject *module)
     for (int i = 0; i < HELPS; i++)
         Py_CLEAR(state->help[i]);
     forget_texts(state);
+    Py_CLEAR(state->re_pattern_rest);
+    Py_CLEAR(state->re_match_rest);
     Py_CLEAR(state->kept);
     return 0;
 }

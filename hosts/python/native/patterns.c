@@ -7,7 +7,7 @@
 bool read_arguments(PyObject *const *given, Py_ssize_t count, PyObject *names, const char *const *known, Py_ssize_t least,
                     Py_ssize_t most, PyObject **arguments)
 {
-    Py_ssize_t named = names == NULL ? 0 : PyTuple_Size(names);
+    Py_ssize_t named;
 
     if (count > most) {
         PyErr_Format(PyExc_TypeError, "expected at most %zd arguments, got %zd", most, count);
@@ -15,6 +15,9 @@ bool read_arguments(PyObject *const *given, Py_ssize_t count, PyObject *names, c
     }
     for (Py_ssize_t i = 0; i < most; i++)
         arguments[i] = i < count ? given[i] : NULL;
+    if (names == NULL && count >= least)
+        return true;
+    named = names == NULL ? 0 : PyTuple_Size(names);
     for (Py_ssize_t i = 0; i < named; i++) {
         PyObject *name = PyTuple_GetItem(names, i);
         Py_ssize_t at = 0;
@@ -50,8 +53,10 @@ static bool read_range(Pattern *pattern, PyObject *const *given, Py_ssize_t coun
     static const char *const known[] = {"string", "pos", "endpos"};
     PyObject *arguments[3];
 
+    if (names == NULL && count == 1)
+        return range_of(pattern->state, given[0], pattern->reads, NULL, NULL, range);
     return read_arguments(given, count, names, known, 1, 3, arguments)
-           && range_of(pattern->state, arguments[0], arguments[1], arguments[2], range);
+           && range_of(pattern->state, arguments[0], pattern->reads, arguments[1], arguments[2], range);
 }
 
 /* ---- making and freeing */
@@ -137,17 +142,18 @@ static bool compile(Pattern *pattern, PyObject *given)
     return is_compiled;
 }
 
-/* `Pattern(pattern, flags, options, text=None, names=None, adjacent=False)`: the last three are of the module `re`, for which
- * the text that is compiled is another. */
+/* `Pattern(pattern, flags, options, text=None, names=None, adjacent=False, reads=0)`: the text is what is compiled, if that is
+ * not the pattern as it is; names and adjacent are of the module `re`. */
 PyObject *new_pattern(PyTypeObject *type, PyObject *given, PyObject *named)
 {
-    static char *known[] = {"pattern", "flags", "options", "text", "names", "adjacent", NULL};
+    static char *known[] = {"pattern", "flags", "options", "text", "names", "adjacent", "reads", NULL};
     PyObject *source, *flags, *options, *text = Py_None, *names = Py_None, *module = PyType_GetModule(type);
-    int is_adjacent = 0;
+    int is_adjacent = 0, reads = READS_STR;
     Pattern *pattern;
 
     if (module == NULL
-        || !PyArg_ParseTupleAndKeywords(given, named, "OOO|OOp", known, &source, &flags, &options, &text, &names, &is_adjacent))
+        || !PyArg_ParseTupleAndKeywords(given, named, "OOO|OOpi", known, &source, &flags, &options, &text, &names, &is_adjacent,
+                                        &reads))
         return NULL;
     pattern = (Pattern *)((allocfunc)PyType_GetSlot(type, Py_tp_alloc))(type, 0);
     if (pattern == NULL)
@@ -157,6 +163,7 @@ PyObject *new_pattern(PyTypeObject *type, PyObject *given, PyObject *named)
     pattern->state = PyModule_GetState(module);
     pattern->match_type = type == pattern->state->re_pattern_type ? pattern->state->re_match_type : pattern->state->match_type;
     pattern->is_adjacent = is_adjacent;
+    pattern->reads = (enum reads)reads;
     pattern->flags = Py_NewRef(flags);
     pattern->cache = PyDict_New();
     pattern->text = PyUnicode_FromObject(text == Py_None ? source : text);
@@ -180,6 +187,7 @@ static int visit_pattern(Pattern *pattern, visitproc visit, void *arg)
     Py_VISIT(pattern->groupindex);
     Py_VISIT(pattern->names);
     Py_VISIT(pattern->parts);
+    Py_VISIT(pattern->twin);
     return 0;
 }
 
@@ -212,47 +220,13 @@ static void free_pattern(Pattern *pattern)
     Py_XDECREF(pattern->names);
     Py_XDECREF(pattern->template);
     Py_XDECREF(pattern->parts);
+    Py_XDECREF(pattern->twin);
     PyObject_GC_Del(pattern);
     Py_XDECREF(module);
     Py_DECREF(type);
 }
 
 /* ---- one match */
-
-/* The first match with these programs, or None. With `is_whole` it has to end where the range does. */
-static PyObject *find_in(Pattern *pattern, struct programs *programs, const struct range *range, bool is_anchored, bool is_whole)
-{
-    size_t own[OWN_NUMBERS], *spans = own;
-    PyObject *match = NULL;
-    int found;
-
-    if (range->pos > range->endpos)
-        return Py_NewRef(Py_None);
-    if (2 * pattern->groups > OWN_NUMBERS && (spans = PyMem_Malloc(2 * pattern->groups * sizeof *spans)) == NULL)
-        return PyErr_NoMemory();
-    found = find(pattern, programs, range, is_anchored, spans);
-    if (found == 0 || (found > 0 && is_whole && spans[1] != range->end))
-        match = Py_NewRef(Py_None);
-    else if (found > 0)
-        match = new_match(pattern, range, spans, pattern->groups);
-    if (spans != own)
-        PyMem_Free(spans);
-    return match;
-}
-
-static PyObject *pattern_search(Pattern *pattern, PyObject *const *given, Py_ssize_t count, PyObject *names)
-{
-    struct range range;
-
-    return read_range(pattern, given, count, names, &range) ? find_in(pattern, &pattern->search, &range, false, false) : NULL;
-}
-
-static PyObject *pattern_match(Pattern *pattern, PyObject *const *given, Py_ssize_t count, PyObject *names)
-{
-    struct range range;
-
-    return read_range(pattern, given, count, names, &range) ? find_in(pattern, &pattern->search, &range, true, false) : NULL;
-}
 
 /* Compiles the program of fullmatch, at its first call. */
 static bool compile_whole(Pattern *pattern)
@@ -284,15 +258,55 @@ static bool compile_whole(Pattern *pattern)
     return true;
 }
 
-static PyObject *pattern_fullmatch(Pattern *pattern, PyObject *const *given, Py_ssize_t count, PyObject *names)
+/* The first match, or None. With `is_whole` it has to end where the range does. */
+static PyObject *find_in(Pattern *pattern, const struct range *range, bool is_anchored, bool is_whole)
+{
+    Pattern *searched = searched_in(pattern, &range->text);
+    size_t own[OWN_NUMBERS], *spans = own;
+    PyObject *match = NULL;
+    int found;
+
+    if (range->pos > range->endpos)
+        return Py_NewRef(Py_None);
+    if (searched == NULL || (is_whole && !compile_whole(searched)))
+        return NULL;
+    if (2 * pattern->groups > OWN_NUMBERS && (spans = PyMem_Malloc(2 * pattern->groups * sizeof *spans)) == NULL)
+        return PyErr_NoMemory();
+    found = find(searched, is_whole ? &searched->whole : &searched->search, range, is_anchored, spans);
+    if (found == 0 || (found > 0 && is_whole && spans[1] != range->end))
+        match = Py_NewRef(Py_None);
+    else if (found > 0)
+        match = new_match(pattern, range, spans, pattern->groups);
+    if (spans != own)
+        PyMem_Free(spans);
+    return match;
+}
+
+static PyObject *one_match(Pattern *pattern, PyObject *const *given, Py_ssize_t count, PyObject *names, bool is_anchored, bool is_whole)
 {
     struct range range;
+    PyObject *match;
 
     if (!read_range(pattern, given, count, names, &range))
         return NULL;
-    if (range.pos > range.endpos)
-        return Py_NewRef(Py_None);
-    return compile_whole(pattern) ? find_in(pattern, &pattern->whole, &range, true, true) : NULL;
+    match = find_in(pattern, &range, is_anchored, is_whole);
+    close_text(&range.text);
+    return match;
+}
+
+static PyObject *pattern_search(Pattern *pattern, PyObject *const *given, Py_ssize_t count, PyObject *names)
+{
+    return one_match(pattern, given, count, names, false, false);
+}
+
+static PyObject *pattern_match(Pattern *pattern, PyObject *const *given, Py_ssize_t count, PyObject *names)
+{
+    return one_match(pattern, given, count, names, true, false);
+}
+
+static PyObject *pattern_fullmatch(Pattern *pattern, PyObject *const *given, Py_ssize_t count, PyObject *names)
+{
+    return one_match(pattern, given, count, names, true, true);
 }
 
 /* ---- all matches */
@@ -344,14 +358,14 @@ static PyObject *pattern_findall(Pattern *pattern, PyObject *const *given, Py_ss
 
     if (!read_range(pattern, given, count, names, &range))
         return NULL;
-    texts = PyList_New(0);
-    open_list(&list, pattern, &range, PY_SSIZE_T_MAX, pattern->groups > 1, 0);
+    texts = open_list(&list, pattern, &range, PY_SSIZE_T_MAX, pattern->groups > 1, 0) ? PyList_New(0) : NULL;
     while (texts != NULL && (spans = next_row(&list)) != NULL)
         if (!append(texts, found_text(&list, spans)))
             Py_CLEAR(texts);
     if (texts != NULL && PyErr_Occurred())
         Py_CLEAR(texts);
     close_list(&list);
+    close_text(&range.text);
     return texts;
 }
 
@@ -381,14 +395,14 @@ static PyObject *pattern_split(Pattern *pattern, PyObject *const *given, Py_ssiz
     struct list list;
     Py_ssize_t most;
 
-    if (!read_arguments(given, count, names, known, 1, 2, arguments)
-        || !range_of(pattern->state, arguments[0], NULL, NULL, &range) || !read_count(arguments[1], &most))
+    if (!read_arguments(given, count, names, known, 1, 2, arguments) || !read_count(arguments[1], &most)
+        || !range_of(pattern->state, arguments[0], pattern->reads, NULL, NULL, &range))
         return NULL;
-    pieces = PyList_New(0);
-    open_list(&list, pattern, &range, most, pattern->groups > 1, 0);
+    pieces = open_list(&list, pattern, &range, most, pattern->groups > 1, 0) ? PyList_New(0) : NULL;
     if (pieces != NULL && !append_pieces(pieces, &list))
         Py_CLEAR(pieces);
     close_list(&list);
+    close_text(&range.text);
     return pieces;
 }
 
@@ -429,12 +443,17 @@ static PyObject *pattern_finditer(Pattern *pattern, PyObject *const *given, Py_s
     if (!read_range(pattern, given, count, names, &range))
         return NULL;
     matches = PyObject_GC_New(Matches, pattern->state->matches_type);
-    if (matches == NULL)
+    if (matches == NULL) {
+        close_text(&range.text);
         return NULL;
-    open_list(&matches->list, (Pattern *)Py_NewRef((PyObject *)pattern), &range, PY_SSIZE_T_MAX, pattern->groups > 1, 1);
+    }
+    Py_INCREF((PyObject *)pattern);
     Py_INCREF(range.text.string);
     matches->is_busy = false;
-    PyObject_GC_Track(matches);
+    if (!open_list(&matches->list, pattern, &range, PY_SSIZE_T_MAX, pattern->groups > 1, 1))
+        Py_CLEAR(matches);
+    else
+        PyObject_GC_Track(matches);
     return (PyObject *)matches;
 }
 
@@ -467,6 +486,7 @@ static void free_matches(Matches *matches)
 
     PyObject_GC_UnTrack(matches);
     close_list(&matches->list);
+    close_text(&matches->list.range.text);
     Py_DECREF(matches->list.pattern);
     Py_DECREF(matches->list.range.text.string);
     PyObject_GC_Del(matches);
@@ -537,6 +557,8 @@ static PyMemberDef members[] = {
     {"_options", T_OBJECT_EX, offsetof(Pattern, options), READONLY, NULL},
     {"_names", T_OBJECT_EX, offsetof(Pattern, names), READONLY, NULL},
     {"_cache", T_OBJECT_EX, offsetof(Pattern, cache), READONLY, NULL},
+    {"_reads", T_INT, offsetof(Pattern, reads), READONLY, NULL},
+    {"_is_adjacent", T_BOOL, offsetof(Pattern, is_adjacent), READONLY, NULL},
     {"__weaklistoffset__", T_PYSSIZET, offsetof(Pattern, weak), READONLY, NULL},
     {NULL, 0, 0, 0, NULL},
 };
@@ -555,11 +577,23 @@ static PyType_Slot slots[] = {
 #define FLAGS Py_TPFLAGS_DEFAULT | Py_TPFLAGS_HAVE_GC
 
 static PyType_Spec spec = {"fancy.Pattern", sizeof(Pattern), 0, FLAGS, slots};
-/* made by `_re_pattern` alone, as `re` has it */
-static PyType_Spec re_spec = {"fancy.re.Pattern", sizeof(Pattern), 0, FLAGS | Py_TPFLAGS_DISALLOW_INSTANTIATION, slots + 1};
+
+static PyMethodDef re_methods[MOST_METHODS];
+
+static PyType_Slot re_slots[] = {
+    {Py_tp_dealloc, free_pattern}, {Py_tp_traverse, visit_pattern}, {Py_tp_clear, clear_pattern}, {Py_tp_methods, re_methods},
+    {Py_tp_members, members},      {Py_tp_getset, getters},         {Py_tp_repr, rest_repr},      {Py_tp_hash, rest_hash},
+    {Py_tp_richcompare, rest_compare}, {Py_tp_doc, "Compiled regular expression object."}, {0, NULL},
+};
+
+/* made by `_re_pattern` alone, and not to be changed, as `re` has it */
+static PyType_Spec re_spec = {
+    "fancy.re.Pattern", sizeof(Pattern), 0, FLAGS | Py_TPFLAGS_DISALLOW_INSTANTIATION | Py_TPFLAGS_IMMUTABLETYPE, re_slots,
+};
 
 bool make_patterns(PyObject *module, struct state *state)
 {
+    join_methods(re_methods, methods, rest_of_patterns);
     state->pattern_type = (PyTypeObject *)PyType_FromModuleAndSpec(module, &spec, NULL);
     state->re_pattern_type = (PyTypeObject *)PyType_FromModuleAndSpec(module, &re_spec, NULL);
     state->matches_type = (PyTypeObject *)PyType_FromModuleAndSpec(module, &matches_spec, NULL);

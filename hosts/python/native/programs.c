@@ -139,23 +139,43 @@ static void give_back(struct programs *programs, struct handle *handle)
 
 /* ---- one match */
 
+/* What is searched for in a text with lone surrogates, borrowed; NULL with an error. */
+Pattern *twin_of(Pattern *pattern)
+{
+    PyObject *twin, *older;
+
+    if (pattern->twin == NULL) {
+        twin = PyObject_CallFunctionObjArgs(pattern->state->help[HELP_TWIN], (PyObject *)pattern, NULL);
+        if (twin == NULL)
+            return NULL;
+        /* None stands for itself, so that there is no ring */
+        older = pattern->twin;
+        pattern->twin = Py_NewRef(twin == (PyObject *)pattern ? Py_None : twin);
+        Py_DECREF(twin);
+        Py_XDECREF(older);
+    }
+    return pattern->twin == Py_None ? pattern : (Pattern *)pattern->twin;
+}
+
 /* The first match: 1 with its spans, in bytes, 0 if there is none, -1 with an error. */
 int find(Pattern *pattern, struct programs *programs, const struct range *range, bool is_anchored, size_t *spans)
 {
     const struct library *library = &pattern->state->library;
     const char *text = range->text.utf8;
     size_t end = range->end, room = 2 * pattern->groups;
-    struct fancy_options options = programs->options;
     struct fancy_outcome outcome;
 
-    options.pos = range->start;
-    options.anchored = is_anchored;
     if (end - range->start < LONG_TEXT) {
-        outcome = library->find(&programs->first, text, end, &options, spans, room);
+        programs->options.pos = range->start;
+        programs->options.anchored = is_anchored;
+        outcome = library->find(&programs->first, text, end, &programs->options, spans, room);
     } else {
         struct handle *handle = take(pattern, programs);
+        struct fancy_options options = programs->options;
         if (handle == NULL)
             return -1;
+        options.pos = range->start;
+        options.anchored = is_anchored;
         Py_BEGIN_ALLOW_THREADS
         outcome = library->find(&handle->program, text, end, &options, spans, room);
         Py_END_ALLOW_THREADS
@@ -173,9 +193,10 @@ int find(Pattern *pattern, struct programs *programs, const struct range *range,
 
 /* Begins a list of at most `limit` matches, none of them if it is negative, with all groups or group 0 alone. There is room
  * for so many at first, and then for twice as many in each call, so there are few calls. */
-void open_list(struct list *list, Pattern *pattern, const struct range *range, Py_ssize_t limit, bool with_groups, size_t room)
+bool open_list(struct list *list, Pattern *pattern, const struct range *range, Py_ssize_t limit, bool with_groups, size_t room)
 {
     list->pattern = pattern;
+    list->searched = searched_in(pattern, &range->text);
     list->range = *range;
     list->cursor = (struct fancy_cursor){range->start, 0, false};
     list->limit = limit;
@@ -185,6 +206,7 @@ void open_list(struct list *list, Pattern *pattern, const struct range *range, P
     list->outcome.code = FANCY_OK;
     list->has_more = range->pos <= range->endpos && limit > 0;
     list->numbers = list->own;
+    return list->searched != NULL;
 }
 
 void close_list(struct list *list)
@@ -237,7 +259,7 @@ static bool compile_advance(Pattern *pattern)
  * first one behind. */
 static bool fill_adjacent(struct list *list)
 {
-    Pattern *pattern = list->pattern;
+    Pattern *pattern = list->searched;
     struct range range = list->range;
     int found = 0;
 
@@ -269,7 +291,7 @@ static bool fill_adjacent(struct list *list)
 /* Reads the next matches into memory. */
 static bool fill(struct list *list)
 {
-    struct programs *programs = &list->pattern->search;
+    struct programs *programs = &list->searched->search;
     struct fancy_options options = programs->options;
     size_t most = MOST_NUMBERS / list->width, room = list->room < 1 ? 1 : list->room;
 
@@ -281,7 +303,7 @@ static bool fill(struct list *list)
     if (list->range.end - list->range.start < LONG_TEXT) {
         list->outcome = search_on(list, &programs->first, &options, room * list->width);
     } else {
-        struct handle *handle = take(list->pattern, programs);
+        struct handle *handle = take(list->searched, programs);
         if (handle == NULL)
             return false;
         Py_BEGIN_ALLOW_THREADS

@@ -11,6 +11,7 @@ static PyObject *match_of_row(struct state *state, PyObject *patterns, const str
     size_t groups = is_sound ? ((Pattern *)object)->groups : 0;
 
     is_sound = is_sound && FANCY_ROW_WIDTH(groups) <= width;
+    is_sound = is_sound && (((Pattern *)object)->reads == READS_STR) == (range->text.bytes == NULL);
     for (size_t i = 0; is_sound && i < 2 * groups; i++)
         is_sound = spans[i] == FANCY_UNSET || spans[i] <= range->text.length;
     if (is_sound)
@@ -35,7 +36,7 @@ static PyObject *tuple_of_row(PyTypeObject *kind, const size_t *row, PyObject *m
     return tuple;
 }
 
-/* `_found(address, count, width, patterns, string, pos, endpos, kind)`: the rows at an address, as a list of named tuples. */
+/* `_found(address, count, width, patterns, string, reads, pos, endpos, kind)`: the rows at an address, as a list of named tuples. */
 PyObject *found_rows(PyObject *module, PyObject *given)
 {
     struct state *state = PyModule_GetState(module);
@@ -43,13 +44,15 @@ PyObject *found_rows(PyObject *module, PyObject *given)
     Py_ssize_t count, width;
     PyObject *patterns, *string, *pos, *endpos, *kind, *list;
     struct range range;
+    int reads;
 
-    if (!PyArg_ParseTuple(given, "KnnO!OOOO!", &address, &count, &width, &PyTuple_Type, &patterns, &string, &pos, &endpos, &PyType_Type,
-                          &kind)
-        || !range_of(state, string, pos, endpos, &range))
+    if (!PyArg_ParseTuple(given, "KnnO!OiOOO!", &address, &count, &width, &PyTuple_Type, &patterns, &string, &reads, &pos, &endpos,
+                          &PyType_Type, &kind))
         return NULL;
     if (!PyType_IsSubtype((PyTypeObject *)kind, &PyTuple_Type) || width < FANCY_ROW_SPANS)
         return PyErr_Format(PyExc_TypeError, "no tuple, or no row");
+    if (!range_of(state, string, (enum reads)reads, pos, endpos, &range))
+        return NULL;
     list = PyList_New(0);
     for (const size_t *row = (const size_t *)(uintptr_t)address; list != NULL && count > 0; row += width, count--) {
         PyObject *match = match_of_row(state, patterns, &range, row, (size_t)width);
@@ -58,5 +61,6 @@ PyObject *found_rows(PyObject *module, PyObject *given)
             Py_CLEAR(list);
         Py_XDECREF(tuple);
     }
+    close_text(&range.text);
     return list;
 }

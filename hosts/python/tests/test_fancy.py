@@ -1,6 +1,11 @@
 """What is the engine's own: expected values are by the syntax of fancy-regex, and by hand."""
 
+import array
 import gc
+import mmap
+import pickle
+import re as stdlib
+import tempfile
 import threading
 import time
 import unittest
@@ -150,8 +155,149 @@ class Errors(unittest.TestCase):
                 fancy.compile(r"(a)\2", analysis_limit=limit)
             self.assertEqual(caught.exception.name, name)
 
-    def test_lone_surrogates(self):
-        self.assertRaises(UnicodeEncodeError, fancy.search, "a", "\ud800")
+
+
+class Surrogates(unittest.TestCase):
+    """A lone surrogate is one character, which is U+10F800 and its number to a pattern."""
+
+    def test_searches(self):
+        text = "é\ud800b\udfff"
+        found = fancy.search(r"(.)b(\W)", text)
+        self.assertEqual((found.regs, found.groups(), found.string), (((1, 4), (1, 2), (3, 4)), ("\ud800", "\udfff"), text))
+        self.assertEqual((fancy.findall("[\ud800-\udfff]", text), fancy.findall(r"\x{10F800}", text)), (["\ud800", "\udfff"], ["\ud800"]))
+        self.assertEqual(fancy.split("b", text), ["é\ud800", "\udfff"])
+        self.assertEqual(fancy.sub("b", "\udc80", text), "é\ud800\udc80\udfff")
+        self.assertEqual(fancy.sub("(b)(.)", r"\2\1", text), "é\ud800\udfffb")
+        self.assertEqual([it.span() for it in fancy.finditer(r"\W", text)], [(1, 2), (3, 4)])
+        self.assertEqual([it.span() for it in fancy.finditer(r"\W", text, fancy.A)], [(0, 1), (1, 2), (3, 4)])
+        self.assertEqual(fancy.compile("b").search(text, 2, 3).span(), (2, 3))
+        scanner = fancy.Scanner([fancy.compile("b"), fancy.compile(".")])
+        self.assertEqual([it.match.span() for it in scanner.scan(text)], [(0, 1), (1, 2), (2, 3), (3, 4)])
+        self.assertEqual(fancy.compile("\ud800").pattern, "\ud800")
+
+    def test_long_texts(self):
+        text = "é\udc80a" * 2000
+        self.assertEqual([it.start() for it in fancy.finditer("a", text)], [*range(2, 6000, 3)])
+        self.assertEqual(fancy.compile("a").search(text, 4000).span(), (4001, 4002))
+
+    def test_what_stands_for_them(self):
+        for pattern, text in (("a", "\ud800\U0010f800"), ("\ud800\U0010ffff", "a")):
+            self.assertRaises(UnicodeEncodeError, fancy.search, pattern, text)
+        self.assertEqual(fancy.search("b", "\U0010f800b").span(), (1, 2))
+
+
+class Bytes(unittest.TestCase):
+    def test_latin_1(self):
+        pattern = fancy.compile(rb"(?<n>\w+)=(\xE9|[^\x00-\x7f])?")
+        found = pattern.search(b"\xff a1=\xe9")
+        self.assertEqual((found.span(), found.groups(), found.groupdict()), ((2, 6), (b"a1", b"\xe9"), {"n": b"a1"}))
+        self.assertEqual(fancy.findall(rb"(?i)\xe9|K", b"\xc9\xe9k"), [b"\xe9", b"k"])
+        self.assertEqual(fancy.findall(b"(?i)\xe9+", b"\xc9\xe9\xe9"), [b"\xe9\xe9"])
+        for pattern in (b"[\xe9k]+", rb"[^\xE9k]", rb"[\x80-\xC9\d]", b"\xe9{2}|\\xe8"):
+            text = b"\xc9\xe9\xe9Kk1\xc8\xe8"
+            self.assertEqual(fancy.findall(pattern, text, fancy.I), stdlib.findall(pattern, text, stdlib.I))
+        text = b"a1_ \t\x1c\x85\xa0\xaa\xb5\xb9\xe9\xff-"
+        for escape in (rb"\w", rb"\W", rb"\d", rb"\D", rb"\s", rb"\S", rb"\b", rb"\B", rb"[\w-]", rb"[^\W\d]", rb"[^a]"):
+            self.assertEqual([it.span() for it in fancy.finditer(escape, text)], [it.span() for it in stdlib.finditer(escape, text)])
+        self.assertEqual(fancy.compile(b"\xe9").sub(rb"<\g<0>>", b"a\xe9"), b"a<\xe9>")
+        self.assertEqual(fancy.escape(b"a.\xe9"), b"a\\.\xe9")
+        self.assertEqual((fancy.compile(b"a").flags, fancy.compile(b"a") == fancy.compile("a")), (0, False))
+
+    def test_utf8(self):
+        text = "ä é".encode() + b"\xff\xe2\x82 " + "é€".encode()
+        word = fancy.compile(r"[\wé]+".encode(), utf8=True)
+        self.assertEqual([it.span() for it in word.finditer(text)], [(0, 2), (3, 5), (9, 11)])
+        bad = fancy.compile(rb"\x{FFFD}", utf8=True)
+        self.assertEqual((bad.findall(text), bad.split(text)), ([b"\xff", b"\xe2\x82"], [text[:5], b"", text[8:]]))
+        self.assertEqual(bad.sub(rb"<\g<0>>", text), text[:5] + b"<\xff><\xe2\x82>" + text[8:])
+        # a position inside a character is that of the next one
+        self.assertEqual([word.search(text, it).span() for it in (0, 1, 2, 3, 4)], [(0, 2), (3, 5), (3, 5), (3, 5), (9, 11)])
+        self.assertEqual(fancy.compile("(?<ä>.)".encode(), utf8=True).sub(r"\g<ä>!".encode(), b"\xc3\xa9"), b"\xc3\xa9!")
+        self.assertEqual(fancy.compile(b".", fancy.A, utf8=True).findall("é€".encode()), ["é".encode(), "€".encode()])
+        for wrong, kind in ((("a",), ValueError), ((b"\xff",), UnicodeDecodeError)):
+            self.assertRaises(kind, fancy.compile, *wrong, utf8=True)
+        self.assertRaises(ValueError, fancy.compile, b"a", fancy.U)
+
+    def test_places_in_utf8(self):
+        pieces = [b"a", b"\xc3\xa9", b"\xf0\x9f\x98\x80", b"\xff", b"\xe2\x82", b"\xf0\x9f\x98", b"\xef\xbf\xbd"]
+        dot = fancy.compile(b"(?s).", utf8=True)
+        for step in (1, 2, 3, 5):
+            parts = [pieces[number * step % len(pieces)] + b"x" for number in range(1500)]
+            text = b"".join(parts)
+            starts = [0]
+            for part in parts:
+                starts += starts[-1] + len(part) - 1, starts[-1] + len(part)
+            self.assertEqual([it.start() for it in dot.finditer(text)], starts[:-1])
+            for place in (1, 100, len(text) // 2, len(text) - 3):
+                start = min(it for it in starts if it >= place)
+                self.assertEqual(dot.match(text, place).span(), (start, min(it for it in starts if it > start)))
+
+    def test_errors(self):
+        for options, pattern, pos in (({}, b"\xe9(", 2), ({"utf8": True}, b"\xc3\xa9(", 3)):
+            with self.assertRaises(fancy.error) as caught:
+                fancy.compile(pattern, **options)
+            self.assertEqual((caught.exception.pattern, caught.exception.pos), (pattern, pos))
+        with self.assertRaises(fancy.error) as caught:
+            fancy.sub(b"a", rb"\xe9\2", b"a")
+        self.assertEqual(type(caught.exception.pattern), bytes)
+        with self.assertRaises(fancy.LimitError) as caught:
+            fancy.compile(rb"(a|b|ab)*(?=c)c\1", backtrack_limit=1000).search(b"ab" * 30 + b"dc")
+        self.assertEqual(caught.exception.pattern, rb"(a|b|ab)*(?=c)c\1")
+
+    def test_buffers(self):
+        flat = b"a1\xe9b22"
+        with tempfile.TemporaryFile() as file:
+            file.write(flat)
+            file.flush()
+            with mmap.mmap(file.fileno(), 0) as mapped:
+                for text in (bytearray(flat), memoryview(flat), array.array("B", flat), mapped):
+                    found = fancy.search(rb"([a-z])(\d+)", text, 0)
+                    self.assertEqual((found.groups(), found.string is text), ((b"a", b"1"), True))
+                    self.assertEqual(fancy.findall(rb"\d+|\xe9", text), [b"1", b"\xe9", b"22"])
+                    self.assertEqual((fancy.split(rb"\xe9", text), fancy.sub(rb"\d", b"", text)), ([b"a1", b"b22"], b"a\xe9b"))
+                    self.assertEqual([it.index for it in fancy.Scanner([fancy.compile(rb"\d")]).scan(text)], [0, 0, 0])
+                del text, found
+        for wrong in (memoryview(flat)[::2], 1, None, [1]):
+            self.assertRaises(TypeError, fancy.search, b"a", wrong)
+        self.assertRaises(TypeError, fancy.sub, b"a", "x", b"a")
+        self.assertRaises(TypeError, fancy.sub, b"a", lambda it: "x", b"a")
+        self.assertEqual(fancy.sub(b"a", lambda it: bytearray(b"x"), b"ab"), b"xb")
+
+    def test_a_buffer_keeps_its_size_while_it_is_searched(self):
+        text = bytearray(b"a1" * 10)
+        matches = fancy.finditer(rb"\d", text)
+        next(matches)
+        self.assertRaises(BufferError, text.append, 1)
+        del matches
+        gc.collect()
+        found = fancy.search(rb"(\d)", text)
+        text[1:2] = b"7"
+        # a match has the bytes of now
+        self.assertEqual(found[1], b"7")
+        text.clear()
+        self.assertEqual(found[1], b"")
+
+    def test_a_call_costs_no_whole_text(self):
+        for text, options in ((b"\xe9" * 500_000, {}), (b"e" * 500_000, {}), (b"\xff" * 500_000, {"utf8": True})):
+            pattern = fancy.compile(b"(?s).", **options)
+            pattern.match(text, 1)
+            begun = time.process_time()
+            for place in range(0, 400_000, 1000):
+                self.assertEqual(pattern.match(text, place).span(), (place, place + 1))
+            self.assertLess(time.process_time() - begun, 0.2)
+
+    def test_scanners(self):
+        scanner = fancy.Scanner([fancy.compile(rb"\xe9+"), fancy.compile(rb"\w")])
+        found = [(it.index, it.match.span(), it.match[0]) for it in scanner.scan(b"-\xe9\xe9a")]
+        self.assertEqual(found, [(0, (1, 3), b"\xe9\xe9"), (1, (3, 4), b"a")])
+        self.assertRaises(TypeError, fancy.Scanner, [fancy.compile(b"a"), fancy.compile("a")])
+        self.assertRaises(TypeError, scanner.search, "a")
+
+    def test_values(self):
+        for pattern in (fancy.compile(b"\xe9", fancy.I), fancy.compile(b"a", utf8=True)):
+            self.assertEqual(pickle.loads(pickle.dumps(pattern)), pattern)
+        self.assertNotEqual(fancy.compile(b"a"), fancy.compile(b"a", utf8=True))
+        self.assertEqual(repr(fancy.search(b"a", b"ba")), "<fancy.Match object; span=(1, 2), match=b'a'>")
 
 
 class Places(unittest.TestCase):
@@ -308,7 +454,7 @@ class Scanners(unittest.TestCase):
         scanner = fancy.Scanner([re.compile(r"(?P<n>\d)+(?(n)a|b)"), fancy.compile("b+")])
         self.assertEqual(self.spans(scanner, "é bb 12a"), [(1, (2, 4), None), (0, (5, 8), None)])
         self.assertEqual(scanner.search("2a").match.groupdict(), {"n": "2"})
-        self.assertRaises(TypeError, fancy.Scanner, [re.compile(b"a")])
+        self.assertEqual(fancy.Scanner([re.compile(rb"\xe9")]).search(b"a\xe9").match.span(), (1, 2))
 
     def test_without_patterns(self):
         self.assertEqual(self.spans(self.scanner(), "a"), [])

@@ -91,7 +91,7 @@ class LikeRe(unittest.TestCase):
 
     def test_flags(self):
         text = "Ab\nab É\né"
-        for pattern in ("a b", "^a", "b$", ".ab", "é", r"\w+"):
+        for pattern in ("a b", "^a", "b$", ".ab", "é", r"\w+", r"\W", "[^a]", r"[^\Wé]|\Bb", r"\b\S"):
             for letters in ("", "I", "M", "S", "X", "A", "IM", "ISX"):
                 if pattern == "b$" and "M" not in letters:
                     continue  # a `$` holds before a last newline in `re` alone
@@ -210,7 +210,7 @@ class LikeRe(unittest.TestCase):
         self.assertEqual((fault.lineno, fault.colno), (2, 3))
 
     def test_what_is_refused(self):
-        for pattern in (b"a", 1, None):
+        for pattern in (bytearray(b"a"), 1, None):
             self.assertRaises(TypeError, fancy.compile, pattern)
         self.assertRaises(TypeError, fancy.search, "a", b"a")
         self.assertRaises(TypeError, fancy.compile, "a", nothing=1)

@@ -78,6 +78,10 @@ class BesideRe(unittest.TestCase):
         for text in (bytearray(b"a1"), memoryview(b"a1"), array.array("B", b"a1")):
             got, want = (it.search(rb"[a-z](\d)", text) for it in (ours, re))
             self.assertEqual((got.groups(), got.string, got[0]), (want.groups(), want.string, want[0]))
+        for text in ("\ud800a", "a\udfffé", "\ud801"):
+            for pattern in ("\ud800", r"[\ud800-\udfff]", ".", r"\W", "[^\ud800]", r"(?:\udfff|a){2}", "[\x80-\uffff]"):
+                self.same(pattern, text)
+            self.same("[\U0010f800-\U0010ffff]", text)
         for of in (ours, re):
             self.assertRaises(TypeError, of.search, b"a", "a")
             self.assertRaises(TypeError, of.search, "a", b"a")
@@ -127,6 +131,12 @@ class BesideRe(unittest.TestCase):
             for name in ("search", "match"):
                 got, want = ([it.span() for it in iter(getattr(of.compile(pattern).scanner("aab a"), name), None)] for of in (ours, re))
                 self.assertEqual(got, want, (pattern, name))
+
+    def test_tokens(self):
+        lexicon = [(r"[0-9]+", lambda scanner, token: (token, scanner.match.span())), (r"\s+", None), (r"(a|b)c", "word")]
+        for text in ("12 ac 7", "ac bc!", "", "!"):
+            self.assertEqual(ours.Scanner(lexicon).scan(text), re.Scanner(lexicon).scan(text))
+        self.assertEqual(ours.Scanner([(b"\xe9", 1)], ours.I).scan(b"\xe9\xe9a"), ([1, 1], b"a"))
 
     def test_templates(self):
         got, want = (it.compile("(?P<k>a)(b)?") for it in (ours, re))

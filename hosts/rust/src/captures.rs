@@ -90,6 +90,11 @@ impl<'t> Captures<'t> {
         Captures { text, spans, names }
     }
 
+    /// The names of the groups.
+    pub(crate) fn names(&self) -> Arc<Names> {
+        Arc::clone(&self.names)
+    }
+
     /// The match.
     pub(crate) fn whole(&self) -> Match<'t> {
         Match {

@@ -23,7 +23,9 @@
 //!   `RuntimeError` `StepLimitExceeded`, `VisitLimitExceeded` and `MemoryLimitExceeded` are new.
 //! - [`Options`] and [`Regex::of_tree`] are new, for trees and for the options of `fancy.h`.
 //! - [`Scanner`] is new: many patterns that are searched for together.
-//! - [`ByteText`] is new: texts that need not be UTF-8.
+//! - [`ByteText`] is new: bytes that need not be UTF-8, read as a text. [`RegexInput`] and [`BytesMode`] are there over it: a
+//!   haystack is a slice of bytes, and a mode says how it is read. Under `BytesMode::Ascii` a character of the pattern is one
+//!   byte.
 //! - A search from a byte that is no character boundary panics.
 //! - Of several groups with one name, [`Captures::name`] returns the first that is set.
 
@@ -41,7 +43,7 @@ mod replacer;
 mod scanner;
 mod splits;
 
-pub use crate::bytes::ByteText;
+pub use crate::bytes::{ByteCaptures, ByteMatch, ByteText, BytesMode, RegexInput};
 pub use crate::captures::{Captures, Match, SubCaptureMatches};
 pub use crate::error::{
     CompileError, Error, ParseError, ParseErrorPosition, Refusal, Result, RuntimeError,

@@ -1,5 +1,6 @@
 //! How a pattern is read, compiled and searched for.
 
+use crate::bytes::BytesMode;
 use crate::error::Result;
 use crate::regex::Regex;
 use fancy_sys as sys;
@@ -10,6 +11,7 @@ use fancy_sys as sys;
 #[derive(Clone, Copy, Debug, PartialEq, Eq)]
 pub struct Options {
     pub(crate) host: sys::FancyOptions,
+    pub(crate) bytes_mode: BytesMode,
 }
 
 impl Default for Options {
@@ -22,6 +24,7 @@ impl Default for Options {
                 text_is_utf8: true,
                 ..defaults
             },
+            bytes_mode: BytesMode::default(),
         }
     }
 }
@@ -185,6 +188,13 @@ impl RegexBuilder {
     /// Folding, classes and word characters are those of Unicode, and otherwise those of ASCII. On by default.
     pub fn unicode_mode(&mut self, yes: bool) -> &mut RegexBuilder {
         self.options.host.ascii = !yes;
+        self
+    }
+
+    /// How bytes are read that [`Regex::find_input`] and its like search, as UTF-8 by default. Under [`BytesMode::Ascii`] only
+    /// ASCII letters are letters.
+    pub fn bytes_mode(&mut self, mode: BytesMode) -> &mut RegexBuilder {
+        self.options.bytes_mode = mode;
         self
     }
 

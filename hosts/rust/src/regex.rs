@@ -1,5 +1,6 @@
 //! Patterns that were compiled.
 
+use crate::bytes::{over_ascii, BytesMode};
 use crate::captures::{Captures, Match};
 use crate::error::{Error, Result};
 use crate::matches::{CaptureMatches, Form, Matches};
@@ -34,6 +35,8 @@ pub struct Regex {
 }
 
 struct Shared {
+    /// The pattern as it was given, if another text is compiled.
+    given: Option<String>,
     names: Arc<Names>,
     pool: Pool,
 }
@@ -94,7 +97,16 @@ impl Regex {
     ///
     /// Those of [`Regex::new`].
     pub fn with_options(pattern: &str, options: Options) -> Result<Regex> {
-        Regex::of(Source::Pattern(pattern.to_string()), options)
+        let given = pattern.to_string();
+        if options.bytes_mode != BytesMode::Ascii {
+            return Regex::of(Source::Pattern(given), options, None);
+        }
+        let written = Source::Pattern(over_ascii(pattern));
+        Regex::of(written, options, Some(given)).map_err(|error| {
+            // why it is refused as it was given
+            let as_given = Regex::of(Source::Pattern(pattern.to_string()), options, None);
+            as_given.err().unwrap_or(error)
+        })
     }
 
     /// Compiles the tree that a text in the notation of docs/MEANING.md spells. Its groups have no names.
@@ -104,19 +116,32 @@ impl Regex {
     /// [`Error::ParseError`] of kind `GeneralParseError`, with the byte, if the text spells no tree; otherwise those of
     /// [`Regex::new`].
     pub fn of_tree(tree: &str, options: Options) -> Result<Regex> {
-        Regex::of(Source::Tree(tree.to_string()), options)
+        Regex::of(Source::Tree(tree.to_string()), options, None)
     }
 
-    fn of(source: Source, options: Options) -> Result<Regex> {
+    fn of(source: Source, options: Options, given: Option<String>) -> Result<Regex> {
         let pool = Pool::of(source, options)?;
         let names = Arc::new(pool.with(|program| Ok(Names::of(program)))?);
         Ok(Regex {
-            shared: Arc::new(Shared { names, pool }),
+            shared: Arc::new(Shared { given, names, pool }),
         })
+    }
+
+    /// How bytes are read that are searched.
+    pub(crate) fn bytes_mode(&self) -> BytesMode {
+        self.shared.pool.options().bytes_mode
     }
 
     /// The pattern, or the tree, as it was given.
     pub fn as_str(&self) -> &str {
+        self.shared
+            .given
+            .as_deref()
+            .unwrap_or_else(|| self.compiled())
+    }
+
+    /// The text that is compiled.
+    pub(crate) fn compiled(&self) -> &str {
         self.shared.pool.text()
     }
 

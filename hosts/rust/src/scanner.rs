@@ -79,7 +79,7 @@ impl Scanner {
     /// Those of [`Regex::new`]. After an error the scanner has the patterns that it had.
     pub fn add_with_options(&mut self, pattern: &str, options: Options) -> Result<()> {
         let regex = Regex::with_options(pattern, options)?;
-        self.patterns.add(pattern, &options)?;
+        self.patterns.add(regex.compiled(), &options)?;
         self.groups = self.groups.max(regex.captures_len());
         self.names.push(regex.names());
         Ok(())

@@ -1,8 +1,8 @@
 //! The names of fancy-regex over the library. Expected values are by the syntax of patterns, and by hand.
 
 use fancy::{
-    escape, Captures, CompileError, Error, Expander, NoExpand, Options, ParseError, Regex,
-    RegexBuilder, Replacer, Result, RuntimeError, Scanner, Stopped,
+    escape, ByteText, BytesMode, Captures, CompileError, Error, Expander, NoExpand, Options,
+    ParseError, Regex, RegexBuilder, RegexInput, Replacer, Result, RuntimeError, Scanner, Stopped,
 };
 use std::borrow::Cow;
 use std::fmt::Debug;
@@ -619,4 +619,104 @@ fn scans_with_limits() {
 #[test]
 fn the_version() {
     assert_eq!(fancy::version(), env!("CARGO_PKG_VERSION"));
+}
+
+#[test]
+fn searches_in_bytes() {
+    let word = Regex::new(r"(?<first>\w)(\d)?").unwrap();
+    let text = ByteText::new(b"\xFF \xC3\xA9\xE2\x82a1");
+    let found: Vec<_> = text
+        .find_iter(&word)
+        .map(|it| it.unwrap().range())
+        .collect();
+    assert_eq!(found, [2..4, 6..8]);
+    let groups: Vec<_> = text
+        .captures_iter(&word)
+        .map(|it| it.unwrap())
+        .map(|it| {
+            (
+                it.name("first").unwrap().range(),
+                it.get(2).map(|it| it.as_bytes()),
+            )
+        })
+        .collect();
+    assert_eq!(groups, [(2..4, None), (6..7, Some(&b"1"[..]))]);
+    assert_eq!(text.find_from_pos(&word, 3).unwrap().unwrap().range(), 6..8);
+    let replaced = text
+        .replace_all(&word, |it| it[0].as_bytes().repeat(2))
+        .unwrap();
+    assert_eq!(replaced, b"\xFF \xC3\xA9\xC3\xA9\xE2\x82a1a1");
+    assert_eq!(ByteText::new(b"").find(&word).unwrap(), None);
+}
+
+#[test]
+fn inputs() {
+    for (mode, pattern, haystack, ranges) in [
+        (
+            BytesMode::Ascii,
+            r"\xFF\xD8[^\x00]",
+            &b"\x00\xFF\xD8\xFF\xE0"[..],
+            Some((1, 4)),
+        ),
+        (BytesMode::Ascii, "\u{e9}.", b"\xE9\xFF", Some((0, 2))),
+        (
+            BytesMode::Ascii,
+            r"\w+\W[^\W\d]\b",
+            b"\xE9a\xE9b\xB5",
+            Some((1, 4)),
+        ),
+        (
+            BytesMode::UnicodeBytes,
+            "\u{e9}",
+            b"\xFF\xC3\xA9",
+            Some((1, 3)),
+        ),
+        (
+            BytesMode::Unicode,
+            r"\x{FFFD}b",
+            b"a\xE2\x82b",
+            Some((1, 4)),
+        ),
+        (BytesMode::UnicodeBytes, r"\xE9", b"\xE9", None),
+    ] {
+        let regex = RegexBuilder::new(pattern).bytes_mode(mode).build().unwrap();
+        let found = regex.find_input(&RegexInput::new(haystack)).unwrap();
+        assert_eq!(found.map(|it| (it.start(), it.end())), ranges, "{pattern}");
+        assert_eq!(
+            regex.is_match_input(&RegexInput::new(haystack)),
+            Ok(ranges.is_some())
+        );
+    }
+    let mut ascii = RegexBuilder::new(r"\w(");
+    assert_eq!(
+        ascii.bytes_mode(BytesMode::Ascii).build().err(),
+        Some(Error::ParseError(3, ParseError::UnclosedOpenParen))
+    );
+    let word = RegexBuilder::new(r"\w")
+        .bytes_mode(BytesMode::Ascii)
+        .build()
+        .unwrap();
+    assert_eq!(
+        (
+            word.as_str(),
+            word.find("\u{e9}a").unwrap().unwrap().start()
+        ),
+        (r"\w", 2)
+    );
+    let letter = Regex::new("(?<=a)b|^c").unwrap();
+    let input = RegexInput::new("abc");
+    assert_eq!(
+        letter
+            .find_input(&input.from_pos(1))
+            .unwrap()
+            .unwrap()
+            .range(),
+        1..2
+    );
+    assert_eq!(letter.find_input(&input.from_pos(2)), Ok(None));
+    assert_eq!(letter.find_input(&input.from_pos(4)), Ok(None));
+    assert_eq!(
+        (input.from_pos(2).haystack(), input.from_pos(2).pos()),
+        (&b"abc"[..], 2)
+    );
 }

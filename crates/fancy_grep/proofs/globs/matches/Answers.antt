@@ -1,6 +1,6 @@
 use Rattle.std.proofs.Common.{◌≡◌, ◌-◌, false, [], ◌∷◌, suc, length, drop, sym, ap, ◌∙◌, subst, arith, drop_of_length-le}
 use Rattle.std.proofs.lemmas.List.{get_or_default, length-append}
-use Rattle.fancy_grep.specs.Globs.{IsRow, matches, matches_first, token_of, tokens_of}
+use Rattle.fancy_grep.specs.Globs.{IsRow, matches, token_of, tokens_of}
 use Rattle.fancy_grep.proofs.GlobLaws.{AreOff, end_row, off_more, off_none, one_token_more, split_at, written_all}
 use Rattle.fancy_grep.proofs.globs.matches.Goals as goal
 
@@ -18,9 +18,9 @@ loop-c-preserved c = record {
 
 pub loop-left-init : goal.loop-left-init
 loop-left-init c =
-    let name = c.in_ok-name.name.items in
+    let name = c.args.name.now in
     let items = c.push-2.new.self.items in
-    let long : length c.loop-c.row.items ≡ length name = omega (arith, c.loop-c.invariant.long, ap length c.deref-c-items.ensures.value) in
+    let long : length c.loop-c.row.items ≡ length name = omega (arith, c.loop-c.invariant.long) in
     let base : IsRow (matches []) name items =
     subst (λ r. IsRow (matches []) name r) (sym c.in_ok-push-2.ensures.items) (end_row name c.loop-c.row.items long c.loop-c.invariant.off) in record {
       within = omega arith;
@@ -31,7 +31,7 @@ loop-left-init c =
 pub loop-left-preserved : goal.loop-left-preserved
 loop-left-preserved c =
     let inv = c.loop-left.invariant in
-    let name = c.in_ok-name.name.items in
+    let name = c.args.name.now in
     let tokens = c.args.tokens.now in
     let at = c.loop-left.left - 1 in
     let next : suc at ≡ c.loop-left.left = omega arith in
@@ -40,10 +40,8 @@ loop-left-preserved c =
     let new = c.add_before.new.row in
     let same : length new ≡ length c.loop-left.row.items = omega (arith, c.add_before.ensures.length, ap length c.deref_mut.ensures.value) in
     let written = written_all new c.loop-left.row.items c.loop-left.row.len (omega arith) same in
-    let given : IsRow (matches left) c.deref.result.now c.deref_mut.result.now =
-    subst (λ n. IsRow (matches left) n c.deref_mut.result.now) (sym c.deref.ensures.value)
-    (subst (λ r. IsRow (matches left) name r) (sym c.deref_mut.ensures.value) inv.row) in
-    let more = one_token_more t left name new (subst (λ n. IsRow (matches_first t (matches left)) n new) c.deref.ensures.value (c.add_before.ensures.row (matches left) given)) in
+    let given : IsRow (matches left) name c.deref_mut.result.now = subst (λ r. IsRow (matches left) name r) (sym c.deref_mut.ensures.value) inv.row in
+    let more = one_token_more t left name new (c.add_before.ensures.row (matches left) given) in
     let split : tokens_of (drop at tokens) ≡ t ∷ left =
     ap tokens_of (split_at tokens at c.index-tokens-left.result (omega (arith, inv.within)) c.index-tokens-left.is) ∙ ap (λ n. t ∷ tokens_of (drop n tokens)) next in record {
       within = omega (arith, inv.within);
@@ -57,4 +55,4 @@ returns c =
     let tokens = c.args.tokens.now in
     let none : c.loop-left.left ≡ 0 = omega arith in
     c.index.ensures ∙ get_or_default c.loop-left.row.items 0 c.index.result.now false (omega (arith, inv.long)) ∙ inv.row.flag 0 (omega arith)
-    ∙ ap (λ n. matches (tokens_of (drop n tokens)) c.in_ok-name.name.items) none ∙ ap (matches (tokens_of tokens)) c.in_ok-name.ensures
+    ∙ ap (λ n. matches (tokens_of (drop n tokens)) c.args.name.now) none

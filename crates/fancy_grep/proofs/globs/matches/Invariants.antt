@@ -12,8 +12,8 @@ invariant-loop-c l = record {
 abbrev pub invariant-loop-left : goal.invariant-loop-left
 invariant-loop-left l = record {
   within : l.left ≤ length l.tokens;
-  long : length l.row.items ≡ suc (length l.name.items);
-  row : IsRow (matches (tokens_of (drop l.left l.tokens))) l.name.items l.row.items;
+  long : length l.row.items ≡ suc (length l.name);
+  row : IsRow (matches (tokens_of (drop l.left l.tokens))) l.name l.row.items;
 }
 
 abbrev pub decreases-loop-left : goal.decreases-loop-left

@@ -1,6 +1,6 @@
 use Rattle.std.proofs.Common.{◌||◌, sym, ap, ◌∙◌}
-use Rattle.fancy_scanner.specs.declared.node_kind.NodeKind.TheVariants as kind
-use Rattle.fancy_scanner.proofs.NodeKinds.{any-numbered}
+use Rattle.fancy_search.specs.declared.node_kind.NodeKind.TheVariants as kind
+use Rattle.fancy_search.proofs.NodeKinds.{any-numbered}
 use Rattle.fancy_scanner.proofs.reuse.Reuse.of.Goals as goal
 
 pub returns-then-has_kind-2 : goal.returns-then-has_kind-2

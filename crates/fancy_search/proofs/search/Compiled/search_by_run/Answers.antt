@@ -1,24 +1,12 @@
-use Rattle.std.proofs.Common.{◌∙◌, ap, subst, sym}
-use Rattle.fancy_steps.specs.Outcomes.{answer_in}
-use Rattle.fancy_steps.specs.SearchLimits.{StaysWithin}
-use Rattle.fancy_vm.specs.Scratches as runs
-use Rattle.fancy_search.proofs.Bounded.{search_may_pass}
-use Rattle.fancy_search.proofs.Searched.{run_promises}
+use Rattle.fancy_steps.specs.Tasks.{options_of}
+use Rattle.fancy_search.proofs.CandidateAnswers.{told_by}
+use Rattle.fancy_search.proofs.Pairs.{told_promises}
 use Rattle.fancy_search.proofs.search.Compiled.search_by_run.Goals as goal
 
-pub returns-clause-promise : goal.returns-clause-promise
-returns-clause-promise c i from =
-    run_promises i c.args.self.now c.args.text.now c.args.options.now from c.requires.fits
-    (answer_in c.run_into-answer.result c.run_into-answer.new.numbers) c.run_into-answer.ensures.machine c.run_into-answer.ensures.headline
-
-pub returns-clause-bounds : goal.returns-clause-bounds
-returns-clause-bounds c i from =
-    search_may_pass i c.args.self.now c.args.text.now c.args.options.now from c.requires.fits
-    (answer_in c.run_into-answer.result c.run_into-answer.new.numbers) c.run_into-answer.ensures.bounds
-
-pub returns-clause-limits : goal.returns-clause-limits
-returns-clause-limits c = ap runs.limits_of c.count.ensures.runs ∙ c.run_into-answer.ensures.limits
-
-pub returns-clause-stays : goal.returns-clause-stays
-returns-clause-stays c =
-    subst (StaysWithin c.run_into-answer.result) (sym (ap runs.passed_of c.count.ensures.runs)) c.run_into-answer.ensures.stays
+pub returns-in-Found-clause-promise : goal.returns-in-Found-clause-promise
+returns-in-Found-clause-promise c i from =
+    let text = c.args.text.now in
+    let found = c.in-Found.found in
+    let numbers = c.try_candidates.new.numbers in
+    told_promises i c.args.self.now text c.args.options.now from c.requires.fits found numbers
+    (told_by i text (options_of c.args.options.now) found numbers.items (c.in-Found.ensures.told i from))

@@ -104,8 +104,14 @@ returns-in_err-step-clause-finds c =
 pub returns-in_err-step-clause-task : goal.returns-in_err-step-clause-task
 returns-in_err-step-clause-task c = c.in_err-step.ensures.task ∙ c.steps.invariant.task
 
+pub returns-in_err-step-clause-memos : goal.returns-in_err-step-clause-memos
+returns-in_err-step-clause-memos c = subst (λ (t : Task). AreMemosOf t c.step.new.memos) c.steps.invariant.task c.in_err-step.ensures.memos
+
 pub returns-in-Matches-clause-task : goal.returns-in-Matches-clause-task
 returns-in-Matches-clause-task c = c.in_ok-step.ensures.task ∙ c.steps.invariant.task
+
+pub returns-in-Matches-clause-memos : goal.returns-in-Matches-clause-memos
+returns-in-Matches-clause-memos c = subst (λ (t : Task). AreMemosOf t c.step.new.memos) c.steps.invariant.task c.in_ok-step.ensures.memos
 
 pub returns-in-Matches-clause-finds : goal.returns-in-Matches-clause-finds
 returns-in-Matches-clause-finds c =
@@ -119,6 +125,9 @@ returns-in-Matches-clause-finds c =
 
 pub returns-in-Ends-clause-task : goal.returns-in-Ends-clause-task
 returns-in-Ends-clause-task c = c.in_ok-step.ensures.task ∙ c.steps.invariant.task
+
+pub returns-in-Ends-clause-memos : goal.returns-in-Ends-clause-memos
+returns-in-Ends-clause-memos c = subst (λ (t : Task). AreMemosOf t c.step.new.memos) c.steps.invariant.task c.in_ok-step.ensures.memos
 
 pub returns-in-Ends-clause-finds : goal.returns-in-Ends-clause-finds
 returns-in-Ends-clause-finds c =

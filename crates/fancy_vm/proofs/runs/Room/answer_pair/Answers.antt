@@ -17,4 +17,4 @@ answer_pair-answer-requires-clause-place c =
 pub returns : goal.returns
 returns c =
     subst (λ (t : Task). RunAnswersPair (machine.run (plain_task t)) c.answer_pair-answer.result) c.begin-m.ensures.task
-    c.answer_pair-answer.ensures
+    c.answer_pair-answer.ensures.answers

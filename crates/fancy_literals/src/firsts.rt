@@ -1,0 +1,265 @@
+//! With which bytes the ways of a node begin.
+
+ghost use Rattle.std.specs.Prelude.{◌≡◌, ◌≤◌, ◌<◌, ℕ, zero, Bool, List, Option, IfOk, IfSome, encode_utf8, false, map, slice_index_or, true};
+ghost use Rattle.fancy_meaning.specs.Chars.{literal_takes};
+ghost use Rattle.fancy_meaning.specs.Machine.{class_test};
+ghost use Rattle.fancy_meaning.specs.Tree.{Tree, trees};
+ghost use Rattle.fancy_meaning.specs.Tree as plain;
+ghost use Rattle.fancy_characters.specs.Classes.{class_of};
+ghost use Rattle.fancy_expr.specs.Views.{tree_of};
+ghost use Rattle.fancy_literals.specs.Required.{begins_among};
+ghost use Rattle.fancy_literals.specs.Opens.{Grows, OpensBy, OpensEachBy, OpensInOrderBy};
+ghost use Rattle.fancy_literals.specs.TakesByte.{BeginAmong};
+
+use fancy_characters::classes::{CharClassMatcher, ascii_folds, folds_to_others};
+use fancy_expr::error::Error;
+use fancy_expr::expr::{Expr, LookAround};
+use std::alloc::{AllocError, Global};
+
+/// Whether each way of a node begins with one of the bytes.
+#[derive(Clone, Copy)]
+pub enum Opening {
+    /// That is not known.
+    Unknown,
+    /// Each way begins so, or matches the empty string.
+    Stays,
+    /// Each way begins so.
+    Begins,
+}
+
+/// Adds the bytes with which the ways of the node begin, and returns whether all do.
+#[cycle(firsts)]
+pub fn add_first(
+    alloc: Global,
+    expr: &Expr,
+    unicode: bool,
+    bytes: &mut [bool; 256],
+) -> Result<Opening, AllocError>
+    ensures grows { Grows bytes.old bytes.new }
+    ensures opens { IfOk result (λ opening.
+        OpensBy unicode opening bytes.new (tree_of expr.now)) }
+{
+    match expr {
+        Expr::Concat(parts) => add_first_of_parts(alloc, parts, unicode, bytes),
+        Expr::Alt(branches) => add_first_of_branches(alloc, branches, unicode, bytes),
+        Expr::Group(body) => add_first(alloc, body, unicode, bytes),
+        Expr::AtomicGroup(body) => add_first(alloc, body, unicode, bytes),
+        Expr::Repeat { child, lo, .. } => {
+            let opening = add_first(alloc, child, unicode, bytes)?;
+            if *lo == 0 {
+                Ok(or_empty(opening))
+            } else {
+                Ok(opening)
+            }
+        }
+        Expr::LookAround(body, look) => match look {
+            LookAround::LookAhead => add_first_ahead(alloc, body, unicode, bytes),
+            _ => Ok(Opening::Stays),
+        },
+        Expr::Delegate { inner, casei } => add_class(alloc, inner, *casei, unicode, bytes),
+        Expr::Empty => Ok(Opening::Stays),
+        Expr::Assertion(_) => Ok(Opening::Stays),
+        Expr::KeepOut => Ok(Opening::Stays),
+        Expr::DefineGroup { .. } => Ok(Opening::Stays),
+        _ => Ok(add_literal(expr, unicode, bytes)),
+    }
+}
+
+/// The same of what a look-ahead asks for.
+#[cycle(firsts)]
+fn add_first_ahead(
+    alloc: Global,
+    body: &Expr,
+    unicode: bool,
+    bytes: &mut [bool; 256],
+) -> Result<Opening, AllocError>
+    ensures grows { Grows bytes.old bytes.new }
+    ensures opens { IfOk result (λ opening.
+        OpensBy unicode opening bytes.new (plain.LookAround plain.LookAhead (tree_of body.now))) }
+{
+    match add_first(alloc, body, unicode, bytes)? {
+        Opening::Begins => Ok(Opening::Begins),
+        _ => Ok(Opening::Stays),
+    }
+}
+
+/// The same of nodes one after the other.
+#[cycle(firsts)]
+fn add_first_of_parts(
+    alloc: Global,
+    parts: &[Expr],
+    unicode: bool,
+    bytes: &mut [bool; 256],
+) -> Result<Opening, AllocError>
+    ensures grows { Grows bytes.old bytes.new }
+    ensures opens { IfOk result (λ opening.
+        OpensInOrderBy unicode opening bytes.new (trees (map tree_of parts.now))) }
+{
+    for part in parts {
+        match add_first(alloc, part, unicode, bytes)? {
+            Opening::Stays => {}
+            opening => return Ok(opening),
+        }
+    }
+    Ok(Opening::Stays)
+}
+
+/// The same of alternatives.
+#[cycle(firsts)]
+fn add_first_of_branches(
+    alloc: Global,
+    branches: &[Expr],
+    unicode: bool,
+    bytes: &mut [bool; 256],
+) -> Result<Opening, AllocError>
+    ensures grows { Grows bytes.old bytes.new }
+    ensures opens { IfOk result (λ opening.
+        OpensEachBy unicode opening bytes.new (trees (map tree_of branches.now))) }
+{
+    let mut all = Opening::Begins;
+    for branch in branches {
+        match add_first(alloc, branch, unicode, bytes)? {
+            Opening::Begins => {}
+            Opening::Stays => all = Opening::Stays,
+            Opening::Unknown => return Ok(Opening::Unknown),
+        }
+    }
+    Ok(all)
+}
+
+/// The same where a way may match the empty string besides.
+fn or_empty(opening: Opening) -> Opening
+    ensures { (bytes : List Bool) (e : Tree) (unicode greedy : Bool) (hi : Option ℕ)
+        → OpensBy unicode opening bytes e
+        → OpensBy unicode result bytes (plain.Repeat zero hi greedy e) }
+{
+    match opening {
+        Opening::Begins => Opening::Stays,
+        opening => opening,
+    }
+}
+
+/// Adds a byte, if this is one.
+fn add(bytes: &mut [bool; 256], byte: u32)
+    ensures grows { Grows bytes.old bytes.new }
+    ensures added { byte < 256 → slice_index_or bytes.new byte false ≡ true }
+{
+    if byte < 256 {
+        bytes[byte as usize] = true;
+    }
+}
+
+/// Adds the bytes with which characters beyond ASCII begin, and others that are not ASCII.
+fn add_others(bytes: &mut [bool; 256])
+    ensures grows { Grows bytes.old bytes.new }
+    ensures added { (byte : ℕ) → 128 ≤ byte → byte < 256 → slice_index_or bytes.new byte false ≡ true }
+{
+    'others: for byte in 128..256usize {
+        bytes[byte] = true;
+    }
+}
+
+/// The node's character and whether it is folded, if the node is a literal.
+fn literal_of(expr: &Expr) -> Option<(char, bool)>
+    ensures { IfSome result (λ it. tree_of expr.now ≡ plain.Literal it.0 it.1) }
+{
+    match expr {
+        Expr::Literal { val, casei } => match val.chars().next() {
+            Some(character) => Some((character, *casei)),
+            None => None,
+        },
+        _ => None,
+    }
+}
+
+/// As `add_first` of a literal.
+fn add_literal(expr: &Expr, unicode: bool, bytes: &mut [bool; 256]) -> Opening
+    ensures grows { Grows bytes.old bytes.new }
+    ensures opens { OpensBy unicode result bytes.new (tree_of expr.now) }
+{
+    let Some((character, casei)) = literal_of(expr) else {
+        return Opening::Unknown;
+    };
+    add_character(character, casei, unicode, bytes);
+    Opening::Begins
+}
+
+/// Adds the bytes with which the characters begin that a literal of this one matches.
+fn add_character(character: char, casei: bool, unicode: bool, bytes: &mut [bool; 256])
+    ensures grows { Grows bytes.old bytes.new }
+    ensures added { BeginAmong bytes.new (literal_takes unicode character casei) }
+{
+    if casei {
+        add_folded(character, unicode, bytes);
+    } else {
+        add(bytes, lead_byte(character));
+    }
+}
+
+/// The first byte of the character in UTF-8.
+fn lead_byte(character: char) -> u32
+    ensures below { result < 256 }
+    ensures first { (bytes : List Bool) → slice_index_or bytes result false ≡ true
+        → begins_among bytes (encode_utf8 character) ≡ true }
+{
+    let code = character as u32;
+    if code < 0x80 {
+        code
+    } else if code < 0x800 {
+        0xC0 + code / 0x40
+    } else if code < 0x1_0000 {
+        0xE0 + code / 0x1000
+    } else {
+        0xF0 + code / 0x4_0000
+    }
+}
+
+/// Adds the bytes with which the characters begin that fold to the same as this one.
+fn add_folded(character: char, unicode: bool, bytes: &mut [bool; 256])
+    ensures grows { Grows bytes.old bytes.new }
+    ensures added { BeginAmong bytes.new (literal_takes unicode character true) }
+{
+    let code = character as u32;
+    let (lower, upper) = ascii_folds(unicode, code);
+    add(bytes, lower);
+    add(bytes, upper);
+    if folds_to_others(unicode, code) {
+        add_others(bytes);
+    }
+}
+
+/// Adds the bytes with which the characters of the class begin.
+fn add_class(
+    alloc: Global,
+    inner: &str,
+    casei: bool,
+    unicode: bool,
+    bytes: &mut [bool; 256],
+) -> Result<Opening, AllocError>
+    ensures grows { Grows bytes.old bytes.new }
+    ensures opens { IfOk result (λ opening.
+        OpensBy unicode opening bytes.new (plain.Delegate inner.now casei)) }
+{
+    let class = match CharClassMatcher::codepoint(alloc, inner, casei, unicode) {
+        Ok(class) => class,
+        Err(Error::Memory) => return Err(AllocError),
+        Err(_) => return Ok(Opening::Unknown),
+    };
+    add_characters(&class, bytes);
+    Ok(Opening::Begins)
+}
+
+/// The same of a class that was read.
+fn add_characters(class: &CharClassMatcher, bytes: &mut [bool; 256])
+    ensures grows { Grows bytes.old bytes.new }
+    ensures added { BeginAmong bytes.new (class_test (class_of class.now)) }
+{
+    'ascii: for byte in 0..128u8 {
+        if class.takes_ascii(byte) {
+            bytes[byte as usize] = true;
+        }
+    }
+    if class.takes_others() {
+        add_others(bytes);
+    }
+}

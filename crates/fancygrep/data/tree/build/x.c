@@ -1,0 +1,1 @@
+a fox in tree/build/x.c

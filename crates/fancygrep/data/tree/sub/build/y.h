@@ -1,0 +1,1 @@
+a fox in tree/sub/build/y.h
