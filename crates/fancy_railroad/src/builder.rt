@@ -1,6 +1,6 @@
 //! From a tree to the figures of its picture, child by child, each with its size.
 
-use crate::figures::{Figure, MOST_COLUMNS, Shape, Style, columns, measure, size_of};
+use crate::figures::{Extent, Figure, MOST_COLUMNS, Shape, Style, columns, measure, size_of};
 use crate::names::GroupNames;
 use crate::words::{frame_style, frame_words, leaf_shape, push_loop, push_words};
 use fancy_expr::expr::Expr;
@@ -57,13 +57,7 @@ impl Builder<'_> {
         Ok(())
     }
 
-    /// The same without a label.
-    fn push_bare(&mut self, shape: Shape, begin: usize) -> Result<(), AllocError> {
-        let label = String::new(self.alloc);
-        self.push(shape, label, begin)
-    }
-
-    /// The same with this label.
+    /// The same with these words as its label.
     fn push_labelled(&mut self, shape: Shape, words: &str, begin: usize) -> Result<(), AllocError> {
         let label = String::from_str(self.alloc, words)?;
         self.push(shape, label, begin)
@@ -79,16 +73,8 @@ impl Builder<'_> {
             return Ok(false);
         }
         last.label.push_str(text)?;
+        last.size = size_of(shape, last.label.as_str(), Extent::default());
         Ok(true)
-    }
-
-    /// Sets the size of the box that was drawn last by its label.
-    fn resize(&mut self) {
-        let begin = self.figures.len();
-        let nothing = measure(&self.figures, begin);
-        if let Some(last) = self.figures.last_mut() {
-            last.size = size_of(last.shape, last.label.as_str(), nothing);
-        }
     }
 
     /// The figure of a node without children.
@@ -98,7 +84,6 @@ impl Builder<'_> {
         let shape = leaf_shape(expr);
         let may_join = parent == Parent::Sequence && matches!(shape, Shape::Text { .. });
         if may_join && self.join(shape, label.as_str())? {
-            self.resize();
             return Ok(());
         }
         let begin = self.figures.len();
@@ -113,13 +98,9 @@ impl Builder<'_> {
         parent: Parent,
         begin: usize,
     ) -> Result<(), AllocError> {
+        let is_possessive = parent == Parent::Atomic && greedy;
         let mut label = String::new(self.alloc);
-        push_loop(
-            &mut label,
-            (lo, hi),
-            greedy,
-            parent == Parent::Atomic && greedy,
-        )?;
+        push_loop(&mut label, (lo, hi), greedy, is_possessive)?;
         let shape = Shape::Loop {
             is_optional: lo == 0,
             repeats: hi > 1,
@@ -136,7 +117,7 @@ impl Builder<'_> {
     /// The frame of a node, around the figures from `begin` on.
     fn push_frame(&mut self, expr: &Expr, begin: usize) -> Result<(), AllocError> {
         if part_count(expr) > 1 {
-            self.push_bare(Shape::Sequence, begin)?;
+            self.push_labelled(Shape::Sequence, "", begin)?;
         }
         let shape = Shape::Frame(frame_style(expr));
         self.push_labelled(shape, frame_words(expr), begin)
@@ -151,8 +132,8 @@ impl Builder<'_> {
         begin: usize,
     ) -> Result<(), AllocError> {
         match expr {
-            Expr::Concat(_) => self.push_bare(Shape::Sequence, begin),
-            Expr::Alt(_) | Expr::Conditional { .. } => self.push_bare(Shape::Choice, begin),
+            Expr::Concat(_) => self.push_labelled(Shape::Sequence, "", begin),
+            Expr::Alt(_) | Expr::Conditional { .. } => self.push_labelled(Shape::Choice, "", begin),
             Expr::Group(_) => self.push_group(number, begin),
             Expr::Repeat { lo, hi, greedy, .. } => {
                 self.push_loop((*lo, *hi), *greedy, parent, begin)
@@ -183,19 +164,10 @@ impl Builder<'_> {
             (Expr::Conditional { .. }, 0) => {
                 self.push_labelled(Shape::Frame(Style::Look), "if", own)
             }
-            (Expr::Conditional { .. }, 1) => self.push_bare(Shape::Sequence, begin),
-            (Expr::Conditional { .. }, _) => self.push_bare(Shape::Sequence, own),
+            (Expr::Conditional { .. }, 1) => self.push_labelled(Shape::Sequence, "", begin),
+            (Expr::Conditional { .. }, _) => self.push_labelled(Shape::Sequence, "", own),
             _ => Ok(()),
         }
-    }
-
-    /// The number of the node, where it is a group.
-    fn open(&mut self, expr: &Expr) -> usize {
-        let number = self.group;
-        if matches!(expr, Expr::Group(_)) {
-            self.group = number.saturating_add(1);
-        }
-        number
     }
 
     /// Adds the figures of the node and of those below it.
@@ -204,7 +176,10 @@ impl Builder<'_> {
         if count == 0 {
             return self.push_leaf(expr, parent);
         }
-        let number = self.open(expr);
+        let number = self.group;
+        if matches!(expr, Expr::Group(_)) {
+            self.group = number.saturating_add(1);
+        }
         let begin = self.figures.len();
         for i in 0..count {
             let own = self.figures.len();

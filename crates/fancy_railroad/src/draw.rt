@@ -50,11 +50,7 @@ path.head{fill:#555;stroke:none}circle{fill:#555}rect{stroke:#666}\
 
 /// Writes what stands before the figures: the size, the title, the ground, the pattern.
 fn push_head(out: &mut String, size: Size, title: &str) -> Result<(), AllocError> {
-    let Size {
-        width,
-        below: height,
-        ..
-    } = size;
+    let (width, height) = (size.width, size.below);
     write!(
         out,
         "<svg xmlns=\"http://www.w3.org/2000/svg\" viewBox=\"0 0 {width} {height}\" width=\"{width}\" height=\"{height}\">\n<title>"
@@ -90,24 +86,15 @@ fn painted(alloc: Global, figures: &[Figure], title: &str) -> Result<String, All
     };
     let size = match figures.last() {
         Some(figure) => figure.size,
-        None => Size {
-            width: 0,
-            above: 0,
-            below: 0,
-        },
+        None => Size::new(0, 0, 0),
     };
-    let place = Place {
-        x: MARGIN + MARK,
-        y: size.above.saturating_add(HEAD),
-    };
-    let whole = Size {
-        width: size
-            .width
-            .saturating_add(2 * (MARGIN + MARK))
-            .max(box_width(title).saturating_add(MARGIN)),
-        above: 0,
-        below: place.y.saturating_add(size.below).saturating_add(MARGIN),
-    };
+    let place = Place::new(MARGIN + MARK, size.above.saturating_add(HEAD));
+    let width = size.width.saturating_add(2 * (MARGIN + MARK));
+    let whole = Size::new(
+        width.max(box_width(title, 0).saturating_add(MARGIN)),
+        0,
+        place.y.saturating_add(size.below).saturating_add(MARGIN),
+    );
     push_head(&mut painter.out, whole, title)?;
     push_marks(&mut painter.out, place, size)?;
     painter.push_all(place)?;

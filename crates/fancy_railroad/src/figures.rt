@@ -68,6 +68,16 @@ pub struct Size {
     pub below: usize,
 }
 
+impl Size {
+    pub fn new(width: usize, above: usize, below: usize) -> Size {
+        Size {
+            width,
+            above,
+            below,
+        }
+    }
+}
+
 /// A figure with its label, its room, and how many figures it is made of, with itself.
 #[derive(Drop)]
 pub struct Figure {
@@ -86,16 +96,10 @@ pub fn columns(text: &str) -> usize {
     columns
 }
 
-/// The width of a line of small text.
-fn note_width(text: &str) -> usize {
-    columns(text)
-        .saturating_add(2)
-        .saturating_mul(NOTE_CHARACTER)
-}
-
-/// The width of a box with the text.
-pub fn box_width(text: &str) -> usize {
-    columns(text).saturating_add(2).saturating_mul(CHARACTER)
+/// The width of a box with the text, and so many characters more.
+pub fn box_width(text: &str, more: usize) -> usize {
+    let columns = columns(text).saturating_add(more.saturating_add(2));
+    columns.saturating_mul(CHARACTER)
 }
 
 /// What follows the quoted text of a box.
@@ -104,7 +108,7 @@ pub fn text_note(is_folded: bool) -> &'static str {
 }
 
 /// What the figures of a row come to, from the last one on.
-#[derive(Clone, Copy)]
+#[derive(Clone, Copy, Default)]
 pub struct Extent {
     pub count: usize,
     /// Side by side.
@@ -118,24 +122,11 @@ pub struct Extent {
 }
 
 impl Extent {
-    fn new() -> Extent {
-        Extent {
-            count: 0,
-            across: 0,
-            widest: 0,
-            above: 0,
-            below: 0,
-            height: 0,
-            first_above: 0,
-        }
-    }
-
     /// With one figure more, before the others.
     fn with(self, size: Size) -> Extent {
-        let (gap, track_gap) = if self.count == 0 {
-            (0, 0)
-        } else {
-            (GAP, TRACK_GAP)
+        let (gap, track_gap) = match self.count {
+            0 => (0, 0),
+            _ => (GAP, TRACK_GAP),
         };
         let height = size.above.saturating_add(size.below);
         Extent {
@@ -185,7 +176,7 @@ impl<'f> Roots<'f> {
 
 /// What the figures from this one on come to.
 pub fn measure(figures: &[Figure], begin: usize) -> Extent {
-    let mut extent = Extent::new();
+    let mut extent = Extent::default();
     let mut roots = Roots::new(figures, begin, figures.len());
     for _ in begin..figures.len() {
         let Some((_, figure, rest)) = roots.split_last() else {
@@ -197,69 +188,39 @@ pub fn measure(figures: &[Figure], begin: usize) -> Extent {
     extent
 }
 
-/// The room of a box.
-fn box_size(text: &str, more: usize) -> Size {
-    Size {
-        width: box_width(text).saturating_add(more.saturating_mul(CHARACTER)),
-        above: HALF_BOX,
-        below: HALF_BOX,
-    }
-}
-
-/// The room of a frame with this label.
-fn frame_size(extent: Extent, label: &str) -> Size {
-    Size {
-        width: extent
-            .widest
-            .saturating_add(2 * PADDING)
-            .max(note_width(label)),
-        above: extent.above.saturating_add(PADDING + NOTE),
-        below: extent.below.saturating_add(PADDING),
-    }
-}
-
-fn choice_size(extent: Extent) -> Size {
-    Size {
-        width: extent.widest.saturating_add(2 * RAIL),
-        above: extent.first_above,
-        below: extent.height.saturating_sub(extent.first_above),
-    }
-}
-
-/// The room of a loop with this label.
-fn loop_size(extent: Extent, label: &str, is_optional: bool, repeats: bool) -> Size {
-    let past = if is_optional { TURN } else { 0 };
-    let back = if repeats { TURN } else { 0 };
-    Size {
-        width: extent
-            .widest
-            .saturating_add(2 * RAIL)
-            .max(note_width(label)),
-        above: extent.above.saturating_add(past),
-        below: extent.below.saturating_add(back).saturating_add(NOTE),
-    }
-}
-
 /// The room of a figure, where those that stand in it come to this.
 pub fn size_of(shape: Shape, label: &str, extent: Extent) -> Size {
+    let Extent { above, below, .. } = extent;
+    let note_width = columns(label)
+        .saturating_add(2)
+        .saturating_mul(NOTE_CHARACTER);
     match shape {
-        Shape::Line => Size {
-            width: LINE,
-            above: HALF_LINE,
-            below: HALF_LINE,
-        },
-        Shape::Text { is_folded } => box_size(label, text_note(is_folded).len().saturating_add(2)),
-        Shape::Box(_) => box_size(label, 0),
-        Shape::Frame(_) => frame_size(extent, label),
-        Shape::Sequence => Size {
-            width: extent.across,
-            above: extent.above,
-            below: extent.below,
-        },
-        Shape::Choice => choice_size(extent),
+        Shape::Line => Size::new(LINE, HALF_LINE, HALF_LINE),
+        Shape::Text { is_folded } => {
+            let more = text_note(is_folded).len().saturating_add(2);
+            Size::new(box_width(label, more), HALF_BOX, HALF_BOX)
+        }
+        Shape::Box(_) => Size::new(box_width(label, 0), HALF_BOX, HALF_BOX),
+        Shape::Frame(_) => Size::new(
+            extent.widest.saturating_add(2 * PADDING).max(note_width),
+            above.saturating_add(PADDING + NOTE),
+            below.saturating_add(PADDING),
+        ),
+        Shape::Sequence => Size::new(extent.across, above, below),
+        Shape::Choice => Size::new(
+            extent.widest.saturating_add(2 * RAIL),
+            extent.first_above,
+            extent.height.saturating_sub(extent.first_above),
+        ),
         Shape::Loop {
             is_optional,
             repeats,
-        } => loop_size(extent, label, is_optional, repeats),
+        } => Size::new(
+            extent.widest.saturating_add(2 * RAIL).max(note_width),
+            above.saturating_add(if is_optional { TURN } else { 0 }),
+            below
+                .saturating_add(if repeats { TURN } else { 0 })
+                .saturating_add(NOTE),
+        ),
     }
 }

@@ -11,29 +11,9 @@ pub struct Place {
     pub y: usize,
 }
 
-/// A label, and what stands before it and after it, in which nothing means anything to XML.
-#[derive(Clone, Copy)]
-struct Text<'w> {
-    before: &'static str,
-    label: &'w str,
-    after: &'static str,
-}
-
-/// The label alone.
-fn alone(label: &str) -> Text<'_> {
-    Text {
-        before: "",
-        label,
-        after: "",
-    }
-}
-
-/// What stands behind the characters of a literal.
-fn closing(is_folded: bool) -> &'static str {
-    if is_folded {
-        "&quot; in any case"
-    } else {
-        "&quot;"
+impl Place {
+    pub fn new(x: usize, y: usize) -> Place {
+        Place { x, y }
     }
 }
 
@@ -43,6 +23,15 @@ pub struct Painter<'f> {
     pub out: String,
     pub figures: &'f [Figure],
     pub places: Vec<Place>,
+}
+
+/// What stands behind the characters of a literal.
+fn closing(is_folded: bool) -> &'static str {
+    if is_folded {
+        "&quot; in any case"
+    } else {
+        "&quot;"
+    }
 }
 
 fn class(style: Style) -> &'static str {
@@ -61,107 +50,84 @@ fn class(style: Style) -> &'static str {
 impl Painter<'_> {
     fn put(&mut self, number: usize, x: usize, y: usize) {
         if let Some(place) = self.places.get_mut(number) {
-            *place = Place { x, y };
+            *place = Place::new(x, y);
         }
     }
 
     /// A piece of track.
-    fn push_line(&mut self, place: Place, to: usize) -> Result<(), AllocError> {
-        let Place { x, y } = place;
+    fn push_line(&mut self, x: usize, y: usize, to: usize) -> Result<(), AllocError> {
         writeln!(self.out, "<path d=\"M{x},{y}H{to}\"/>")
     }
 
-    /// A rectangle around the track.
+    /// A rectangle around the track of a figure.
     fn push_rectangle(
         &mut self,
         place: Place,
         size: Size,
         round: usize,
-        class: &str,
+        style: Style,
     ) -> Result<(), AllocError> {
-        let Size {
-            width,
-            above,
-            below,
-        } = size;
-        let (x, y) = (place.x, place.y.saturating_sub(above));
-        let height = above.saturating_add(below);
+        let (x, y, width) = (place.x, place.y.saturating_sub(size.above), size.width);
+        let (height, class) = (size.above.saturating_add(size.below), class(style));
         writeln!(
             self.out,
             "<rect x=\"{x}\" y=\"{y}\" width=\"{width}\" height=\"{height}\" rx=\"{round}\" class=\"{class}\"/>"
         )
     }
 
-    /// Text in the middle of a figure, which stands on this line.
-    fn push_text(&mut self, place: Place, class: &str, text: Text<'_>) -> Result<(), AllocError> {
-        let Place { x, y } = place;
-        let Text {
-            before,
-            label,
-            after,
-        } = text;
-        write!(self.out, "<text x=\"{x}\" y=\"{y}\"{class}>{before}")?;
+    /// A label that stands on this line, and what follows it, in which nothing means anything to XML.
+    fn push_text(
+        &mut self,
+        (x, y): (usize, usize),
+        before: &str,
+        label: &str,
+        after: &str,
+    ) -> Result<(), AllocError> {
+        write!(self.out, "<text x=\"{x}\" y=\"{y}\"{before}")?;
         push_escaped(&mut self.out, label)?;
         writeln!(self.out, "{after}</text>")
     }
 
-    /// The text of a box.
+    /// The text of a box, in quotes if something follows it.
     fn push_inside(
         &mut self,
         figure: &Figure,
         place: Place,
-        text: Text<'_>,
+        after: &str,
     ) -> Result<(), AllocError> {
-        let below = Place {
-            x: middle(place, figure.size),
-            y: place.y.saturating_add(5),
-        };
-        self.push_text(below, "", text)
+        let begin = (middle(place, figure.size), place.y.saturating_add(5));
+        let before = if after.is_empty() { ">" } else { ">&quot;" };
+        self.push_text(begin, before, figure.label.as_str(), after)
     }
 
-    fn push_box(&mut self, figure: &Figure, place: Place, style: Style) -> Result<(), AllocError> {
-        self.push_rectangle(place, figure.size, 3, class(style))?;
-        self.push_inside(figure, place, alone(figure.label.as_str()))
-    }
-
-    fn push_quoted(
+    fn push_box(
         &mut self,
         figure: &Figure,
         place: Place,
-        is_folded: bool,
+        (round, style): (usize, Style),
+        after: &str,
     ) -> Result<(), AllocError> {
-        self.push_rectangle(place, figure.size, 14, class(Style::Literal))?;
-        let text = Text {
-            before: "&quot;",
-            label: figure.label.as_str(),
-            after: closing(is_folded),
-        };
-        self.push_inside(figure, place, text)
+        self.push_rectangle(place, figure.size, round, style)?;
+        self.push_inside(figure, place, after)
     }
 
-    /// Puts the one figure that stands in this one into its middle, and draws the track to it and from it.
+    /// Puts the one figure that stands in this one into its middle, and draws the track to it and from it. Returns where it
+    /// begins, and its size.
     fn place_inside(
         &mut self,
         number: usize,
         figure: &Figure,
     ) -> Result<(Place, Size), AllocError> {
-        let place = self.place(number);
+        let Place { x, y } = self.place(number);
         let Some((inner, body, _)) = roots(self.figures, number, figure).split_last() else {
-            return Ok((place, figure.size));
+            return Ok((Place { x, y }, figure.size));
         };
-        let (size, own) = (body.size, figure.size);
-        let x = place
-            .x
-            .saturating_add(own.width.saturating_sub(size.width) / 2);
-        let inside = Place { x, y: place.y };
-        self.put(inner, x, place.y);
-        self.push_line(place, x)?;
-        let behind = Place {
-            x: x.saturating_add(size.width),
-            y: place.y,
-        };
-        self.push_line(behind, place.x.saturating_add(own.width))?;
-        Ok((inside, size))
+        let (size, own) = (body.size, figure.size.width);
+        let begin = x.saturating_add(own.saturating_sub(size.width) / 2);
+        self.put(inner, begin, y);
+        self.push_line(x, y, begin)?;
+        self.push_line(begin.saturating_add(size.width), y, x.saturating_add(own))?;
+        Ok((Place::new(begin, y), size))
     }
 
     fn push_frame(
@@ -170,13 +136,11 @@ impl Painter<'_> {
         figure: &Figure,
         style: Style,
     ) -> Result<(), AllocError> {
-        let place = self.place(number);
-        self.push_rectangle(place, figure.size, 6, class(style))?;
-        let corner = Place {
-            x: place.x.saturating_add(8),
-            y: place.y.saturating_sub(figure.size.above).saturating_add(13),
-        };
-        self.push_text(corner, " class=\"label\"", alone(figure.label.as_str()))?;
+        let Place { x, y } = self.place(number);
+        let top = y.saturating_sub(figure.size.above);
+        let corner = (x.saturating_add(8), top.saturating_add(13));
+        self.push_rectangle(Place { x, y }, figure.size, 6, style)?;
+        self.push_text(corner, " class=\"label\">", figure.label.as_str(), "")?;
         self.place_inside(number, figure)?;
         Ok(())
     }
@@ -185,11 +149,8 @@ impl Painter<'_> {
     fn push_past(&mut self, place: Place, size: Size, body: Size) -> Result<(), AllocError> {
         let Place { x, y } = place;
         let top = y.saturating_sub(body.above.saturating_add(TURN));
-        let (end, low) = (
-            x.saturating_add(size.width).saturating_sub(16),
-            y.saturating_sub(8),
-        );
-        let high = top.saturating_add(8);
+        let end = x.saturating_add(size.width).saturating_sub(16);
+        let (low, high) = (y.saturating_sub(8), top.saturating_add(8));
         writeln!(
             self.out,
             "<path d=\"M{x},{y}q8,0 8,-8V{high}q0,-8 8,-8H{end}q8,0 8,8V{low}q0,8 8,8\"/>"
@@ -217,22 +178,17 @@ impl Painter<'_> {
         is_optional: bool,
         repeats: bool,
     ) -> Result<(), AllocError> {
-        let place = self.place(number);
+        let (place, size) = (self.place(number), figure.size);
         let (inside, body) = self.place_inside(number, figure)?;
         if is_optional {
-            self.push_past(place, figure.size, body)?;
+            self.push_past(place, size, body)?;
         }
         if repeats {
             self.push_back(inside, body)?;
         }
-        let below = Place {
-            x: middle(place, figure.size),
-            y: place
-                .y
-                .saturating_add(figure.size.below)
-                .saturating_sub(NOTE / 4),
-        };
-        self.push_text(below, " class=\"note\"", alone(figure.label.as_str()))
+        let bottom = place.y.saturating_add(size.below);
+        let below = (middle(place, size), bottom.saturating_sub(NOTE / 4));
+        self.push_text(below, " class=\"note\">", figure.label.as_str(), "")
     }
 
     /// The figures of a sequence, from the last one on.
@@ -248,31 +204,26 @@ impl Painter<'_> {
             self.put(inner, x, place.y);
             end = x.saturating_sub(GAP);
             if x > place.x {
-                self.push_line(Place { x: end, y: place.y }, x)?;
+                self.push_line(end, place.y, x)?;
             }
             left = rest;
         }
         Ok(())
     }
 
-    /// A track of a choice: from the choice's begin to the figure there, and on to the choice's end.
+    /// A track of a choice, from its begin up to its end, to the figure in this place and from where that ends.
     fn push_track(
         &mut self,
-        place: Place,
+        Place { x, y }: Place,
         end: usize,
-        track: Place,
-        track_end: usize,
+        Place { x: inner, y: own }: Place,
+        behind: usize,
     ) -> Result<(), AllocError> {
-        let Place { x, y } = place;
-        let Place { x: inner, y: own } = track;
-        let (low, turn, high) = (
-            own.saturating_sub(8),
-            end.saturating_sub(16),
-            y.saturating_add(8),
-        );
+        let (low, high) = (own.saturating_sub(8), y.saturating_add(8));
+        let turn = end.saturating_sub(16);
         writeln!(
             self.out,
-            "<path d=\"M{x},{y}q8,0 8,8V{low}q0,8 8,8H{inner}M{track_end},{own}H{turn}q8,0 8,-8V{high}q0,-8 8,-8\"/>"
+            "<path d=\"M{x},{y}q8,0 8,8V{low}q0,8 8,8H{inner}M{behind},{own}H{turn}q8,0 8,-8V{high}q0,-8 8,-8\"/>"
         )
     }
 
@@ -293,8 +244,8 @@ impl Painter<'_> {
             if y > place.y {
                 self.push_track(place, end, Place { x, y }, behind)?;
             } else {
-                self.push_line(place, x)?;
-                self.push_line(Place { x: behind, y }, end)?;
+                self.push_line(place.x, place.y, x)?;
+                self.push_line(behind, y, end)?;
             }
             bottom = y.saturating_sub(part.size.above).saturating_sub(TRACK_GAP);
             left = rest;
@@ -305,7 +256,7 @@ impl Painter<'_> {
     fn place(&self, number: usize) -> Place {
         match self.places.get(number) {
             Some(place) => *place,
-            None => Place { x: 0, y: 0 },
+            None => Place::new(0, 0),
         }
     }
 
@@ -313,9 +264,14 @@ impl Painter<'_> {
     fn push_figure(&mut self, number: usize, figure: &Figure) -> Result<(), AllocError> {
         let place = self.place(number);
         match figure.shape {
-            Shape::Line => self.push_line(place, place.x.saturating_add(figure.size.width)),
-            Shape::Text { is_folded } => self.push_quoted(figure, place, is_folded),
-            Shape::Box(style) => self.push_box(figure, place, style),
+            Shape::Line => {
+                self.push_line(place.x, place.y, place.x.saturating_add(figure.size.width))
+            }
+            Shape::Text { is_folded } => {
+                let after = closing(is_folded);
+                self.push_box(figure, place, (14, Style::Literal), after)
+            }
+            Shape::Box(style) => self.push_box(figure, place, (3, style), ""),
             Shape::Frame(style) => self.push_frame(number, figure, style),
             Shape::Sequence => self.push_sequence(number, figure),
             Shape::Choice => self.push_choice(number, figure),

@@ -29,33 +29,21 @@ fn assertion(assertion: Assertion) -> &'static str {
     }
 }
 
-fn any(newline: bool, crlf: bool) -> &'static str {
-    match (newline, crlf) {
-        (true, _) => "any character",
-        (false, true) => "any character but CR and LF",
-        (false, false) => "any character but LF",
-    }
-}
-
-fn verb(verb: BacktrackingControlVerb) -> &'static str {
-    match verb {
-        BacktrackingControlVerb::Fail => "never",
-        BacktrackingControlVerb::Accept => "accept",
-        BacktrackingControlVerb::Commit => "commit",
-        BacktrackingControlVerb::Skip => "skip",
-        BacktrackingControlVerb::Prune => "prune",
-    }
-}
-
 /// The words of a node that has the same ones wherever it stands.
 fn fixed(expr: &Expr) -> &'static str {
     match expr {
-        Expr::Any { newline, crlf } => any(*newline, *crlf),
+        Expr::Any { newline: true, .. } => "any character",
+        Expr::Any { crlf: true, .. } => "any character but CR and LF",
+        Expr::Any { .. } => "any character but LF",
         Expr::Assertion(asserted) => assertion(*asserted),
         Expr::GeneralNewline { .. } => "line end",
         Expr::KeepOut => "the match begins here",
         Expr::ContinueFromPreviousMatchEnd => "end of the last match",
-        Expr::BacktrackingControlVerb(named) => verb(*named),
+        Expr::BacktrackingControlVerb(BacktrackingControlVerb::Fail) => "never",
+        Expr::BacktrackingControlVerb(BacktrackingControlVerb::Accept) => "accept",
+        Expr::BacktrackingControlVerb(BacktrackingControlVerb::Commit) => "commit",
+        Expr::BacktrackingControlVerb(BacktrackingControlVerb::Skip) => "skip",
+        Expr::BacktrackingControlVerb(BacktrackingControlVerb::Prune) => "prune",
         Expr::SubroutineCall(_) => "call of the whole pattern",
         Expr::Absent(_) => "no limit on the text",
         _ => "not resolved",
@@ -82,20 +70,14 @@ fn is_visible(text: &str) -> bool {
     text.chars().all(|c| matches!(c.width(), Some(1..)))
 }
 
-/// Characters that cannot be seen stand in a box of their own.
-fn literal_shape(text: &str, is_folded: bool) -> Shape {
-    if is_visible(text) {
-        Shape::Text { is_folded }
-    } else {
-        Shape::Box(Style::Literal)
-    }
-}
-
-/// How a node without children is drawn.
+/// How a node without children is drawn: characters that cannot be seen in a box of their own.
 pub fn leaf_shape(expr: &Expr) -> Shape {
     match expr {
         Expr::Empty | Expr::Concat(_) => Shape::Line,
-        Expr::Literal { val, casei } => literal_shape(val.as_str(), *casei),
+        Expr::Literal { val, casei } if is_visible(val.as_str()) => Shape::Text {
+            is_folded: *casei,
+        },
+        Expr::Literal { .. } => Shape::Box(Style::Literal),
         Expr::Delegate { .. } | Expr::Any { .. } => Shape::Box(Style::Class),
         Expr::GeneralNewline { .. } | Expr::LiteralBytes { .. } => Shape::Box(Style::Class),
         Expr::Assertion(_) | Expr::ContinueFromPreviousMatchEnd => Shape::Box(Style::Place),
@@ -103,25 +85,6 @@ pub fn leaf_shape(expr: &Expr) -> Shape {
         Expr::BackrefExistsCondition { .. } => Shape::Box(Style::Reference),
         _ => Shape::Box(Style::Control),
     }
-}
-
-/// The words for the class texts that patterns write most.
-const CLASSES: [(&str, &str); 6] = [
-    ("\\d", "digit"),
-    ("\\D", "no digit"),
-    ("\\w", "word character"),
-    ("\\W", "no word character"),
-    ("\\s", "white space"),
-    ("\\S", "no white space"),
-];
-
-fn class_words(text: &str) -> Option<&'static str> {
-    for (class, words) in CLASSES {
-        if class == text {
-            return Some(words);
-        }
-    }
-    None
 }
 
 /// Writes the text up to so many columns, and two dots where there is more. Control characters are written as escapes.
@@ -142,12 +105,22 @@ fn push_cut(out: &mut String, text: &str) -> Result<(), AllocError> {
     Ok(())
 }
 
+/// Writes a class: in words, if patterns write it often.
 fn push_class(out: &mut String, text: &str, is_folded: bool) -> Result<(), AllocError> {
-    match class_words(text) {
-        Some(words) => out.push_str(words)?,
-        None => push_cut(out, text)?,
-    }
-    out.push_str(text_note(is_folded))
+    let note = text_note(is_folded);
+    let words = match text {
+        "\\d" => "digit",
+        "\\D" => "no digit",
+        "\\w" => "word character",
+        "\\W" => "no word character",
+        "\\s" => "white space",
+        "\\S" => "no white space",
+        _ => {
+            push_cut(out, text)?;
+            return out.push_str(note);
+        }
+    };
+    write!(out, "{words}{note}")
 }
 
 fn push_bytes(out: &mut String, bytes: &[u8]) -> Result<(), AllocError> {
@@ -161,28 +134,14 @@ fn push_bytes(out: &mut String, bytes: &[u8]) -> Result<(), AllocError> {
     Ok(())
 }
 
-/// The names of characters that cannot be seen and that patterns write most.
-const CHARACTERS: [(char, &str); 4] = [
-    ('\n', "LF"),
-    ('\r', "CR"),
-    ('\t', "tab"),
-    ('\u{a0}', "no-break space"),
-];
-
-fn character_words(c: char) -> Option<&'static str> {
-    for (named, words) in CHARACTERS {
-        if named == c {
-            return Some(words);
-        }
-    }
-    None
-}
-
 /// Writes what a character is called that cannot be seen: by its name or its number.
 fn push_character(out: &mut String, c: char) -> Result<(), AllocError> {
-    match character_words(c) {
-        Some(words) => out.push_str(words),
-        None => {
+    match c {
+        '\n' => out.push_str("LF"),
+        '\r' => out.push_str("CR"),
+        '\t' => out.push_str("tab"),
+        '\u{a0}' => out.push_str("no-break space"),
+        _ => {
             let number = c as u32;
             write!(out, "U+{number:04X}")
         }
