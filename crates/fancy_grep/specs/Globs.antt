@@ -48,6 +48,12 @@ takes (One set) c ends more = is_in set c && ends
 takes (Any set) c ends more = is_in set c && (ends || more)
 takes Folders c ends more = (c == 47 && ends) || more
 
+-- the token always matches one character, which may be this one
+pub record HasAlone (t : Token) (c : ℕ) (has : Bool) : Type 0 where
+  pub set : Set
+  pub token : t ≡ One set
+  pub same : has ≡ is_in set c
+
 abbrev pub may_be_empty : Token → Bool
 may_be_empty (One set) = false
 may_be_empty t = true

@@ -1,7 +1,7 @@
 //! Globs, and the names that they match.
 
-ghost use Rattle.std.specs.Prelude.{◌≡◌, ◌++◌, ◌≤◌, ◌<◌, ◌&&◌, ◌||◌, ◌∷◌, [], ◌==◌, not, if◌then◌else◌, true, Bool, ℕ, List, suc, IfOk, IfSome, chars, length, option_map};
-ghost use Rattle.fancy_grep.specs.Globs.{Folders, IsRow, after_negation, after_stars, any_in, begins_after, bracketed, escaped, first_of, glob_of, is_among, is_in, just, may_be_empty, matches, matches_first, member, range, ranges, set_of, starred, takes, token_of, tokens_of, unended};
+ghost use Rattle.std.specs.Prelude.{◌≡◌, ◌++◌, ◌≤◌, ◌<◌, ◌&&◌, ◌||◌, ◌∷◌, [], ◌==◌, not, if◌then◌else◌, false, true, Bool, ℕ, List, suc, IfOk, IfSome, chars, length, option_map, unwrap_or};
+ghost use Rattle.fancy_grep.specs.Globs.{Folders, IsRow, after_negation, after_stars, any_in, begins_after, bracketed, escaped, first_of, glob_of, HasAlone, is_among, is_in, just, may_be_empty, matches, matches_first, member, range, ranges, set_of, starred, takes, token_of, tokens_of, unended};
 
 use std::alloc::{AllocError, Global};
 
@@ -30,7 +30,7 @@ impl Set {
         ensures { result ≡ is_among (set_of self.now) c }
     {
         let is_among = self.ranges.iter().any(|range| range.0 <= c && c <= range.1);
-        if self.is_negated { !is_among } else { is_among }
+        self.is_negated != is_among
     }
 
     fn has(&self, c: char) -> bool
@@ -147,6 +147,16 @@ fn ranges(alloc: Global, text: &[char]) -> Result<Option<(Vec<(char, char)>, &[c
 }
 
 impl Token {
+    /// Whether it matches this character, if it always matches one.
+    fn has_alone(&self, c: char) -> Option<bool>
+        ensures { IfSome result (HasAlone (token_of self.now) c) }
+    {
+        match self {
+            Token::One(set) => Some(set.has(c)),
+            _ => None,
+        }
+    }
+
     /// Whether it can match this character and then end, or go on.
     fn takes(&self, c: char, ends: bool, more: bool) -> bool
         ensures { result ≡ takes (token_of self.now) c ends more }
@@ -192,8 +202,40 @@ pub(crate) fn chars_of(alloc: Global, text: &str) -> Result<Vec<char>, AllocErro
     text.chars().collect(alloc)
 }
 
+/// What is left of tokens and a name without the tokens of one character at both ends, if these match theirs.
+fn between<'t, 'n>(tokens: &'t [Token], name: &'n [char]) -> Option<(&'t [Token], &'n [char])>
+    ensures { matches (tokens_of tokens.now) name.now
+        ≡ unwrap_or (option_map (λ r. matches (tokens_of r.0.now) r.1.now) result) false }
+{
+    if let ([token, tokens @ ..], [c, name @ ..]) = (tokens, name) {
+        match token.has_alone(*c) {
+            Some(true) => return between(tokens, name),
+            Some(false) => return None,
+            None => {}
+        }
+    }
+    if let ([tokens @ .., token], [name @ .., c]) = (tokens, name) {
+        match token.has_alone(*c) {
+            Some(true) => return between(tokens, name),
+            Some(false) => return None,
+            None => {}
+        }
+    }
+    Some((tokens, name))
+}
+
 /// Whether the tokens match all of a name. It takes time for each pair of a token and a character.
 pub fn matches(alloc: Global, tokens: &[Token], name: &[char]) -> Result<bool, AllocError>
+    ensures { IfOk result (λ is. is ≡ matches (tokens_of tokens.now) name.now) }
+{
+    match between(tokens, name) {
+        Some((tokens, name)) => matches_by_rows(alloc, tokens, name),
+        None => Ok(false),
+    }
+}
+
+/// The same, by rows.
+fn matches_by_rows(alloc: Global, tokens: &[Token], name: &[char]) -> Result<bool, AllocError>
     ensures { IfOk result (λ is. is ≡ matches (tokens_of tokens.now) name.now) }
 {
     let mut row = Vec::new(alloc);
