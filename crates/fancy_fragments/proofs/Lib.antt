@@ -8,5 +8,4 @@ pub mod PatternTexts
 pub mod GroupRanges
 pub mod DelegateParts
 pub mod SameTrees
-pub mod LeadingLaws
 pub mod ThreadsLaws

@@ -3,4 +3,3 @@ pub mod Settable
 pub mod Nodes
 pub mod Fragments
 pub mod Delegates
-pub mod Leading

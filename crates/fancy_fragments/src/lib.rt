@@ -5,6 +5,5 @@ pub mod copies;
 pub mod delegate;
 pub mod first_way;
 pub mod fragment;
-pub mod leading;
 mod same;
 mod settable;

@@ -1,19 +1,16 @@
 -- What nodes take of sets of bytes, and with which bytes characters begin.
-use Rattle.std.proofs.Common.{◌≡◌, inl, inr, ◌+◌, ◌<◌, ◌≤◌, ◌/◌, ◌||◌, ◌↔◌, ℕ, Bool, true, false, not, nat_le, IsTrue, List, [], ◌∷◌, ◌++◌, take, map, get_or, set, length, encode_utf8, slice_index_or, refl, sym, ap, subst, ◌∙◌, arith}
+use Rattle.std.proofs.Common.{◌≡◌, inl, inr, ◌+◌, ◌<◌, ◌≤◌, ◌/◌, ℕ, Bool, true, List, [], ◌∷◌, ◌++◌, take, map, get_or, length, encode_utf8, refl, sym, ap, subst, ◌∙◌, arith}
 use Rattle.std.specs.Char.{IsScalar}
-use Rattle.std.proofs.lemmas.Bool.{cases_eq, cases_lt, eqb-true, le-leb}
-use Rattle.std.proofs.lemmas.Grind.{get_or-set_at}
-use Rattle.std.proofs.lemmas.List.{get_or-set_other, map-append}
+use Rattle.std.proofs.lemmas.Bool.{cases_lt}
+use Rattle.std.proofs.lemmas.List.{map-append}
 use Rattle.std.proofs.lemmas.Str.{encode_ascii}
 use Rattle.regex_hir.proofs.Utf8Lemmas.{InScalarRange-of_IsScalar, encode_two, encode_three, encode_four}
-use Rattle.regex_class.specs.Ranges.{Range, in_ranges}
-use Rattle.fancy_meaning.specs.Chars.{literal_takes}
 use Rattle.fancy_meaning.specs.Tree.{Tree, Trees, none, more, trees, Literal, Delegate, Concat, Alt, Group, Repeat, AtomicGroup, LookAround, LookAhead, LookBehind}
 use Rattle.fancy_expr.specs.Views.{tree_of}
 use Rattle.fancy_expr.specs.declared.expr.Expr.{Expr}
 use Rattle.fancy_expr.proofs.Walks.{taken}
 use Rattle.fancy_literals.specs.Required.{begins_among}
-use Rattle.fancy_literals.specs.TakesByte.{BeginAmong, EachTakesByte, Includes, OneTakesByte, TakesByte}
+use Rattle.fancy_literals.specs.TakesByte.{EachTakesByte, Includes, OneTakesByte, TakesByte}
 
 -- ---- with which byte a character begins
 
@@ -65,36 +62,6 @@ first_byte c scalar =
           }
         ]
       ]
-    ]
-
--- the set has each ASCII character that passes, and all other bytes where another character may pass
-abbrev pub HasFirst : (bytes : List Bool) → (test : ℕ → Bool) → (beyond : Bool) → Type 0
-HasFirst bytes test beyond = (byte : ℕ) → byte < 256 → (byte < 128 → test byte ≡ true) → (128 ≤ byte → beyond ≡ true) →
-    slice_index_or bytes byte false ≡ true
-
-pub first_among : (bytes : List Bool) (test : ℕ → Bool) (beyond : Bool) → HasFirst bytes test beyond →
-    ((c : ℕ) → 128 ≤ c → test c ≡ true → beyond ≡ true) → BeginAmong bytes test
-first_among bytes test beyond has other c scalar is =
-    let first = first_byte c scalar in
-    ap (begins_among bytes) first.is
-    ∙ has first.byte first.below (λ small. ap test (sym (first.ascii small)) ∙ is) (λ large. other c (first.beyond large) is)
-
-pub literal_beyond : (unicode : Bool) (c : ℕ) (casei : Bool) (d : ℕ) → 128 ≤ d → literal_takes unicode c casei d ≡ true → (casei || nat_le 128 c) ≡ true
-literal_beyond unicode c true d large is = refl
-literal_beyond unicode c false d large is = le-leb 128 c (omega (arith, large, eqb-true c d is))
-
-pub class_beyond : (ranges : List Range) (is_within : Bool) → (IsTrue is_within ↔ ((c : ℕ) → IsTrue (in_ranges ranges c) → c ≤ 0x7F)) →
-    (d : ℕ) → 128 ≤ d → in_ranges ranges d ≡ true → not is_within ≡ true
-class_beyond ranges true h d large is = absurd (omega (arith, large, h.0 refl d is))
-class_beyond ranges false h d large is = refl
-
--- one more ASCII character is tested
-pub one_tested : (bytes : List Bool) (test : ℕ → Bool) (beyond : Bool) (at : ℕ) (b : Bool) → at < 128 → length bytes ≡ 256 → b ≡ test at →
-    HasFirst bytes test beyond → HasFirst (set bytes at b) test beyond
-one_tested bytes test beyond at b small long is has byte below passed large =
-    elim (cases_eq byte at) [
-      | inl same ↦ get_or-set_at bytes at byte b false same (omega (arith, small, long)) ∙ is ∙ ap test (sym same) ∙ passed (omega (arith, same, small))
-      | inr other ↦ get_or-set_other bytes at byte b false other ∙ has byte below passed large
     ]
 
 -- ---- a larger set

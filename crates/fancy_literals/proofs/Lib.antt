@@ -1,5 +1,9 @@
+pub mod BeforeLaws
 pub mod ByteLaw
 pub mod ByteLaws
+pub mod CharacterLaws
+pub mod EndLaws
+pub mod LeadLaws
 pub mod MissingLaw
 pub mod NoAnswer
 pub mod OpenLaws

@@ -23,7 +23,7 @@ rest_from text from start is =
 module _ (text : List ℕ) (from : ℕ) where
   module _ (literal : List ℕ) where
     -- where it stands in the text it stands in what is left
-    occurs : (i : ℕ) → from ≤ i → i ≤ length text → has_bytes_at text i literal ≡ true → OccursAt (drop from text) literal (i - from)
+    pub occurs : (i : ℕ) → from ≤ i → i ≤ length text → has_bytes_at text i literal ≡ true → OccursAt (drop from text) literal (i - from)
     occurs i le within h =
         let after : List ℕ = drop (i + length literal) text in
         let e : drop i text ≡ literal ++ after = has_bytes_at_parts text i literal h in

@@ -1,11 +1,10 @@
 -- With which bytes the ways of nodes begin, by those of their parts.
-use Rattle.std.proofs.Common.{◌≡◌, inl, inr, ⊎_elim, ℕ, zero, suc, ◌+◌, ◌≤◌, Bool, true, false, All, List, [], ◌∷◌, drop, encode_utf8, get_or, length, ◌<◌, slice_index_or, Option, None, Some, refl, sym, ap, subst, ◌∙◌, arith}
+use Rattle.std.proofs.Common.{◌≡◌, inl, inr, ⊎_elim, ℕ, zero, suc, ◌+◌, ◌≤◌, Bool, true, false, All, List, [], ◌∷◌, drop, encode_utf8, get_or, length, ◌<◌, slice_index_or, Option, refl, sym, ap, subst, ◌∙◌, arith}
 use Rattle.std.specs.Char.{IsScalar}
 use Rattle.std.proofs.lemmas.Bool.{cases_lt, false≢true}
-use Rattle.fancy_characters.specs.Others.{LacksOthers}
 use Rattle.fancy_literals.proofs.ByteLaws.{first_byte}
 use Rattle.regex_hir.proofs.TextLemmas.{char_at_parts}
-use Rattle.fancy_meaning.specs.MatchState.{MatchState, Ways, in_order, moved_to, one_of, with_span}
+use Rattle.fancy_meaning.specs.MatchState.{MatchState, Ways, in_order, moved_to, with_span}
 use Rattle.fancy_meaning.specs.Moves.{past_char}
 use Rattle.fancy_meaning.specs.Nodes.{group_count}
 use Rattle.fancy_meaning.specs.Numbering.{each_numbered, numbered_within, within}
@@ -40,11 +39,6 @@ larger_step : (stays also : Bool) (bytes larger : List Bool) → Grows bytes lar
     BeginsOrStays stays bytes text s t → BeginsOrStays also larger text s t
 larger_step stays also bytes larger grows may text s t =
     ⊎_elim (λ begins. inl (begins_larger bytes larger grows (drop s.place text) begins)) (λ stay. inr (may stay.0, stay.1))
-
-pub opens_larger : (unicode stays also : Bool) (bytes larger : List Bool) → Grows bytes larger → (stays ≡ true → also ≡ true) → (e : Tree) →
-    Opens unicode stays bytes e → Opens unicode also larger e
-opens_larger unicode stays also bytes larger grows may e h = λ q call w n s same.
-    All-every {P = BeginsOrStays also larger q.text s} (every_weaker (larger_step stays also bytes larger grows may q.text s) (every-All _ _ (h q call w n s same)))
 
 -- ---- nodes in order
 
@@ -155,10 +149,10 @@ ahead_begins unicode bytes e body = λ q call w n s same.
 
 -- ---- nodes that take nothing
 
-abbrev IsHere : MatchState → MatchState → Type 0
+abbrev pub IsHere : MatchState → MatchState → Type 0
 IsHere s t = t.place ≡ s.place
 
-looking : (q : Setting) → IsLooking q (λ s. Unit {0}) (λ s t. Unit {0}) IsHere
+pub looking : (q : Setting) → IsLooking q (λ s. Unit {0}) (λ s t. Unit {0}) IsHere
 looking q = record {
   stays = λ s any. refl;
   restores = λ s t any step. refl;
@@ -277,8 +271,3 @@ among_by bytes test ascii others c scalar is =
     ap (λ b. slice_index_or bytes b false) (sym same) ∙ ascii c (omega (arith, same, small)) is)
     (λ large. others c scalar (first.beyond large) is first.byte large first.below)
     (cases_lt first.byte 128)
-
--- where no other one passes
-pub ascii_among : (bytes : List Bool) (test : ℕ → Bool) → ((c : ℕ) → c < 128 → test c ≡ true → slice_index_or bytes c false ≡ true) → LacksOthers test → BeginAmong bytes test
-ascii_among bytes test ascii lacks =
-    among_by bytes test ascii (λ c scalar large is byte from below. absurd (false≢true (sym (lacks c scalar large) ∙ is)))

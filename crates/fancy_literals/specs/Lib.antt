@@ -1,4 +1,7 @@
+pub mod Befores
 pub mod ByteSets
+pub mod Characters
+pub mod Leads
 pub mod Opens
 pub mod Required
 pub mod Starts

@@ -40,6 +40,11 @@ impl ByteSet {
         !matches!(self.few, Few::Many)
     }
 
+    /// Whether it has no byte.
+    pub fn is_empty(&self) -> bool {
+        matches!(self.few, Few::Nothing)
+    }
+
     /// The first place of the text before which none of its bytes is, if one may be in the text. It takes time in the length
     /// of the text.
     pub fn find(&self, text: &[u8]) -> Option<usize>

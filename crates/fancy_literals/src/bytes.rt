@@ -1,15 +1,12 @@
 //! A set of bytes of which each match of a tree takes one.
 
 ghost use Rattle.std.specs.Prelude.{◌≡◌, ◌⊎◌, Bool, IfOk, IfSome, Some, map};
-ghost use Rattle.regex_class.specs.Ranges.{in_ranges};
-ghost use Rattle.fancy_meaning.specs.Chars.{literal_takes};
 ghost use Rattle.fancy_meaning.specs.Tree.{trees};
 ghost use Rattle.fancy_expr.specs.Views.{tree_of};
-ghost use Rattle.fancy_literals.specs.TakesByte.{BeginAmong, EachTakesByte, Includes, OneTakesByte, TakesByte};
+ghost use Rattle.fancy_literals.specs.TakesByte.{EachTakesByte, Includes, OneTakesByte, TakesByte};
 
-use fancy_characters::classes::{class_ranges, literal_takes};
+use crate::characters::characters_of;
 use fancy_expr::expr::{Expr, LookAround};
-use regex_class::Class;
 use std::alloc::{AllocError, Global};
 
 /// Bytes of which each way of the node takes one, if such are known that are rare: by whether each byte is one of them.
@@ -102,7 +99,7 @@ fn rarer(first: Option<[bool; 256]>, second: Option<[bool; 256]>) -> Option<[boo
 }
 
 /// The bytes of both sets.
-fn both(first: &[bool; 256], second: &[bool; 256]) -> [bool; 256]
+pub(crate) fn both(first: &[bool; 256], second: &[bool; 256]) -> [bool; 256]
     ensures first { Includes first.now result }
     ensures second { Includes second.now result }
 {
@@ -161,6 +158,18 @@ fn is_frequent_class(text: &str) -> bool {
     }
 }
 
+/// The node may match a frequent character, by its text, or is no literal and no class.
+fn is_frequent_node(expr: &Expr) -> bool {
+    match expr {
+        Expr::Literal { val, casei } => match val.chars().next() {
+            Some(character) => is_frequent_literal(character, *casei),
+            None => true,
+        },
+        Expr::Delegate { inner, casei: _ } => is_frequent_class(inner),
+        _ => true,
+    }
+}
+
 /// The bytes with which the characters begin that the node takes, where it takes one and they are rare.
 fn bytes_of_character(
     alloc: Global,
@@ -171,52 +180,11 @@ fn bytes_of_character(
         → IfOk result (λ found. IfSome found (λ bytes.
         TakesByte unicode behind bytes (tree_of expr.now))) }
 {
-    let bytes = match expr {
-        Expr::Literal { val, casei } => match val.chars().next() {
-            Some(c) if !is_frequent_literal(c, *casei) => literal_bytes(c, *casei, unicode),
-            _ => return Ok(None),
-        },
-        Expr::Delegate { inner, casei } if !is_frequent_class(inner) => {
-            match class_ranges(alloc, inner, *casei, unicode)? {
-                Some(class) => class_bytes(&class),
-                None => return Ok(None),
-            }
-        }
-        _ => return Ok(None),
-    };
-    if are_rare(&bytes) {
-        Ok(Some(bytes))
-    } else {
-        Ok(None)
+    if is_frequent_node(expr) {
+        return Ok(None);
     }
-}
-
-/// The bytes with which the characters begin that the literal takes, beside others.
-fn literal_bytes(character: char, casei: bool, unicode: bool) -> [bool; 256]
-    ensures { BeginAmong result (literal_takes unicode character casei) }
-{
-    let beyond = casei | (character as u32 >= 128);
-    let mut bytes = [true; 256];
-    'ascii: for c in 0..128u8 {
-        bytes[c as usize] = literal_takes(unicode, character as u32, casei, c as u32);
+    match characters_of(alloc, expr, unicode)? {
+        Some(bytes) if are_rare(&bytes) => Ok(Some(bytes)),
+        _ => Ok(None),
     }
-    'others: for byte in 128..256usize {
-        bytes[byte] = beyond;
-    }
-    bytes
-}
-
-/// The bytes with which the characters of the class begin, beside others.
-fn class_bytes(class: &Class) -> [bool; 256]
-    ensures { BeginAmong result (in_ranges class.now.ranges.items) }
-{
-    let beyond = !class.is_within(0x7F);
-    let mut bytes = [true; 256];
-    'ascii: for c in 0..128u8 {
-        bytes[c as usize] = class.contains(c as u32);
-    }
-    'others: for byte in 128..256usize {
-        bytes[byte] = beyond;
-    }
-    bytes
 }

@@ -1,18 +1,15 @@
 //! With which bytes the ways of a node begin.
 
-ghost use Rattle.std.specs.Prelude.{◌≡◌, ◌≤◌, ◌<◌, ℕ, zero, Bool, List, Option, IfOk, IfSome, encode_utf8, false, map, slice_index_or, true};
-ghost use Rattle.fancy_meaning.specs.Chars.{literal_takes};
-ghost use Rattle.fancy_meaning.specs.Machine.{class_test};
+ghost use Rattle.std.specs.Prelude.{◌≡◌, ◌<◌, ℕ, zero, Bool, List, Option, IfOk, encode_utf8, false, map, slice_index_or, true};
 ghost use Rattle.fancy_meaning.specs.Tree.{Tree, trees};
 ghost use Rattle.fancy_meaning.specs.Tree as plain;
-ghost use Rattle.fancy_characters.specs.Classes.{class_of};
 ghost use Rattle.fancy_expr.specs.Views.{tree_of};
 ghost use Rattle.fancy_literals.specs.Required.{begins_among};
 ghost use Rattle.fancy_literals.specs.Opens.{Grows, OpensBy, OpensEachBy, OpensInOrderBy};
-ghost use Rattle.fancy_literals.specs.TakesByte.{BeginAmong};
 
-use fancy_characters::classes::{CharClassMatcher, ascii_folds, folds_to_others};
-use fancy_expr::error::Error;
+use crate::bytes::both;
+use crate::characters::characters_of;
+use crate::required::character_of;
 use fancy_expr::expr::{Expr, LookAround};
 use std::alloc::{AllocError, Global};
 
@@ -56,12 +53,11 @@ pub fn add_first(
             LookAround::LookAhead => add_first_ahead(alloc, body, unicode, bytes),
             _ => Ok(Opening::Stays),
         },
-        Expr::Delegate { inner, casei } => add_class(alloc, inner, *casei, unicode, bytes),
         Expr::Empty => Ok(Opening::Stays),
         Expr::Assertion(_) => Ok(Opening::Stays),
         Expr::KeepOut => Ok(Opening::Stays),
         Expr::DefineGroup { .. } => Ok(Opening::Stays),
-        _ => Ok(add_literal(expr, unicode, bytes)),
+        _ => add_characters(alloc, expr, unicode, bytes),
     }
 }
 
@@ -139,60 +135,27 @@ fn or_empty(opening: Opening) -> Opening
     }
 }
 
-/// Adds a byte, if this is one.
-fn add(bytes: &mut [bool; 256], byte: u32)
+/// Adds the bytes with which the characters begin that the node matches, if it is a literal or a class.
+fn add_characters(
+    alloc: Global,
+    expr: &Expr,
+    unicode: bool,
+    bytes: &mut [bool; 256],
+) -> Result<Opening, AllocError>
     ensures grows { Grows bytes.old bytes.new }
-    ensures added { byte < 256 → slice_index_or bytes.new byte false ≡ true }
+    ensures opens { IfOk result (λ opening.
+        OpensBy unicode opening bytes.new (tree_of expr.now)) }
 {
-    if byte < 256 {
-        bytes[byte as usize] = true;
+    if let Some(character) = character_of(expr) {
+        bytes[lead_byte(character) as usize] = true;
+        return Ok(Opening::Begins);
     }
-}
-
-/// Adds the bytes with which characters beyond ASCII begin, and others that are not ASCII.
-fn add_others(bytes: &mut [bool; 256])
-    ensures grows { Grows bytes.old bytes.new }
-    ensures added { (byte : ℕ) → 128 ≤ byte → byte < 256 → slice_index_or bytes.new byte false ≡ true }
-{
-    'others: for byte in 128..256usize {
-        bytes[byte] = true;
-    }
-}
-
-/// The node's character and whether it is folded, if the node is a literal.
-fn literal_of(expr: &Expr) -> Option<(char, bool)>
-    ensures { IfSome result (λ it. tree_of expr.now ≡ plain.Literal it.0 it.1) }
-{
-    match expr {
-        Expr::Literal { val, casei } => match val.chars().next() {
-            Some(character) => Some((character, *casei)),
-            None => None,
-        },
-        _ => None,
-    }
-}
-
-/// As `add_first` of a literal.
-fn add_literal(expr: &Expr, unicode: bool, bytes: &mut [bool; 256]) -> Opening
-    ensures grows { Grows bytes.old bytes.new }
-    ensures opens { OpensBy unicode result bytes.new (tree_of expr.now) }
-{
-    let Some((character, casei)) = literal_of(expr) else {
-        return Opening::Unknown;
-    };
-    add_character(character, casei, unicode, bytes);
-    Opening::Begins
-}
-
-/// Adds the bytes with which the characters begin that a literal of this one matches.
-fn add_character(character: char, casei: bool, unicode: bool, bytes: &mut [bool; 256])
-    ensures grows { Grows bytes.old bytes.new }
-    ensures added { BeginAmong bytes.new (literal_takes unicode character casei) }
-{
-    if casei {
-        add_folded(character, unicode, bytes);
-    } else {
-        add(bytes, lead_byte(character));
+    match characters_of(alloc, expr, unicode)? {
+        None => Ok(Opening::Unknown),
+        Some(characters) => {
+            *bytes = both(bytes, &characters);
+            Ok(Opening::Begins)
+        }
     }
 }
 
@@ -211,55 +174,5 @@ fn lead_byte(character: char) -> u32
         0xE0 + code / 0x1000
     } else {
         0xF0 + code / 0x4_0000
-    }
-}
-
-/// Adds the bytes with which the characters begin that fold to the same as this one.
-fn add_folded(character: char, unicode: bool, bytes: &mut [bool; 256])
-    ensures grows { Grows bytes.old bytes.new }
-    ensures added { BeginAmong bytes.new (literal_takes unicode character true) }
-{
-    let code = character as u32;
-    let (lower, upper) = ascii_folds(unicode, code);
-    add(bytes, lower);
-    add(bytes, upper);
-    if folds_to_others(unicode, code) {
-        add_others(bytes);
-    }
-}
-
-/// Adds the bytes with which the characters of the class begin.
-fn add_class(
-    alloc: Global,
-    inner: &str,
-    casei: bool,
-    unicode: bool,
-    bytes: &mut [bool; 256],
-) -> Result<Opening, AllocError>
-    ensures grows { Grows bytes.old bytes.new }
-    ensures opens { IfOk result (λ opening.
-        OpensBy unicode opening bytes.new (plain.Delegate inner.now casei)) }
-{
-    let class = match CharClassMatcher::codepoint(alloc, inner, casei, unicode) {
-        Ok(class) => class,
-        Err(Error::Memory) => return Err(AllocError),
-        Err(_) => return Ok(Opening::Unknown),
-    };
-    add_characters(&class, bytes);
-    Ok(Opening::Begins)
-}
-
-/// The same of a class that was read.
-fn add_characters(class: &CharClassMatcher, bytes: &mut [bool; 256])
-    ensures grows { Grows bytes.old bytes.new }
-    ensures added { BeginAmong bytes.new (class_test (class_of class.now)) }
-{
-    'ascii: for byte in 0..128u8 {
-        if class.takes_ascii(byte) {
-            bytes[byte as usize] = true;
-        }
-    }
-    if class.takes_others() {
-        add_others(bytes);
     }
 }

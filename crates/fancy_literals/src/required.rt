@@ -162,7 +162,7 @@ impl Literals {
 }
 
 /// The node's character, where it is a literal that is not folded.
-fn character_of(expr: &Expr) -> Option<char>
+pub(crate) fn character_of(expr: &Expr) -> Option<char>
     ensures { IfSome result (λ c. tree_of expr.now ≡ Literal c false) }
 {
     match expr {

@@ -1,6 +1,6 @@
 //! The NFA of neighbouring easy nodes.
 
-ghost use Rattle.std.specs.Prelude.{◌≡◌, ◌≤◌, ℕ, List, Some, false, true, IfErr, IfOk, IsTrue, length, map, slice_get};
+ghost use Rattle.std.specs.Prelude.{◌≡◌, ℕ, List, Some, false, true, IfErr, IfOk, IsTrue, length, map, slice_get};
 ghost use Rattle.fancy_info.specs.Infos.{info_tree};
 ghost use Rattle.fancy_expr.specs.Each.{Each};
 ghost use Rattle.fancy_meaning.specs.Options.{Analysis};
@@ -158,17 +158,6 @@ impl Nfa {
         match self.first_sets.first() {
             None => false,
             Some(set) => !set[(byte as usize).min(OTHERS)],
-        }
-    }
-
-    /// Whether no way can begin with a character beyond ASCII.
-    pub fn excludes_others(&self) -> bool
-        ensures { IsTrue result → (text : List ℕ) (ix byte : ℕ) → IsText text → IsTrue (is_place text ix)
-            → 128 ≤ byte → slice_get text ix ≡ Some byte → HasNoWayAt text self.now ix }
-    {
-        match self.first_sets.first() {
-            None => false,
-            Some(set) => !set[OTHERS],
         }
     }
 }

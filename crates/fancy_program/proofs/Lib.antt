@@ -1,12 +1,6 @@
 pub mod FitsLaws
-pub mod StartPrefilterLaws
-pub mod StartRunLaws
-pub mod VectorScanLaws
-pub mod StartsLaws
-pub mod AttemptLaws
+pub mod BodyLaws
 pub mod BackLaws
 pub mod ThreadsLaws
 pub mod PlacesLaws
-pub mod LeadingLaws
-pub mod LookLaws
-pub mod LookScanLaws
+pub mod StepsLaws

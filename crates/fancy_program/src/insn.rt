@@ -1,17 +1,12 @@
 //! Instructions and programs.
 
-ghost use Rattle.std.specs.Option.{ForSome};
 ghost use Rattle.std.specs.Prelude.{◌≡◌, List, ◌+◌, ◌-◌, ◌*◌, if◌then◌else◌, min, slice_get, IsTrue, map, length, nat_lt, ◌<◌};
 ghost use Rattle.std.specs.List.{list_all};
 ghost use Rattle.fancy_meaning.specs.Fits.{answer_fits, flag_fits, instr_fits, is_end_instr, program_fits, slots_fit, targets_fit};
 ghost use Rattle.fancy_program.specs.declared.insn.Insn.{Insn};
-ghost use Rattle.fancy_program.specs.Attempts.{IsPrefilterOf};
 ghost use Rattle.fancy_program.specs.Insns.{insn_of, prog_with};
-ghost use Rattle.fancy_program.specs.LookPrefilters.{IsLookPrefilterOf};
 ghost use Rattle.fancy_program.specs.Strategies.{IsStrategyOf};
 
-use crate::look_prefilter::LookPrefilter;
-use crate::prefilter::StartPrefilter;
 use crate::strategy::Strategy;
 use fancy_characters::classes::{CaseiLiteral, CharClassMatcher};
 use fancy_characters::look::is_of_end;
@@ -149,16 +144,10 @@ pub struct Prog {
     /// Its instructions.
     pub body: Vec<Insn>,
     pub parts: ProgParts,
-    /// What lets a run pass over starts, if the program has it.
-    pub prefilter: Option<StartPrefilter>,
-    /// The same by the byte before, if there is none.
-    pub look_prefilter: Option<LookPrefilter>,
-    /// Which way its runs take.
+    /// Which way its attempts take.
     pub strategy: Strategy,
     ghost fits: { IsTrue (program_fits (prog_with body.items parts)) },
-    ghost begins: { ForSome prefilter (IsPrefilterOf (map insn_of body.items)) },
-    ghost looks: { ForSome look_prefilter (IsLookPrefilterOf (map insn_of body.items)) },
-    ghost decides: { IsStrategyOf (map insn_of body.items) prefilter strategy },
+    ghost decides: { IsStrategyOf (map insn_of body.items) strategy },
 }
 
 // Not derived: whoever owns one calls this drop, and would prove a derived one again (docs/GATE.md).
@@ -167,8 +156,6 @@ impl Drop for Prog {
         let Prog {
             body: _,
             parts: _,
-            prefilter: _,
-            look_prefilter: _,
             strategy: _,
         } = self;
     }

@@ -1,7 +1,6 @@
 //! One step in a text: from a place the place after what is taken, if it is there.
 
 ghost use Rattle.std.specs.Prelude.{◌≡◌, ◌<◌, ◌&&◌, nat_le, length, true, false, Some, IfOk, IfSome, IsTrue};
-ghost use Rattle.fancy_meaning.specs.Chars.{any_takes};
 ghost use Rattle.fancy_meaning.specs.Moves as moves;
 ghost use Rattle.fancy_meaning.specs.Places as place;
 ghost use Rattle.fancy_meaning.specs.Machine.{class_test};
@@ -14,25 +13,6 @@ use std::alloc::{AllocError, Global};
 
 /// A step back by so many characters is a long one.
 pub const LONG_STEP: usize = 64;
-
-/// The place behind the character at `ix`, by its first byte.
-#[inline(always)]
-pub(crate) fn next_place(text: &str, ix: usize) -> usize
-    requires place { IsTrue (place.is_place text.now ix) }
-    requires inside { ix < length text.now }
-    ensures { moves.past_char text.now (any_takes true false) ix ≡ Some result }
-{
-    let lead = text.as_bytes()[ix];
-    if lead < 0x80 {
-        ix + 1
-    } else if lead < 0xE0 {
-        ix + 2
-    } else if lead < 0xF0 {
-        ix + 3
-    } else {
-        ix + 4
-    }
-}
 
 /// The place this many characters before `ix`. A character has a byte at least, so there is none where the bytes are
 /// fewer.

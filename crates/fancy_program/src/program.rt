@@ -7,8 +7,6 @@ ghost use Rattle.fancy_program.specs.Insns.{insn_of, prog_with};
 ghost use Rattle.fancy_program.specs.Programs.{prog_of};
 
 use crate::insn::{Insn, Prog, ProgParts};
-use crate::look_prefilter::{LookPrefilter, look_prefilter_of};
-use crate::prefilter::StartPrefilter;
 use crate::strategy::Strategy;
 use crate::threads::{crosses_threads, is_shared_by_threads};
 
@@ -24,14 +22,10 @@ impl Prog {
         crosses_threads::<Prog>();
         is_shared_by_threads::<Prog>();
         let insns: &[Insn] = &body;
-        let prefilter = StartPrefilter::of(insns);
-        let look_prefilter = look_prefilter_of(insns, &prefilter);
-        let strategy = Strategy::of(insns, &prefilter);
+        let strategy = Strategy::of(insns);
         Prog {
             body,
             parts,
-            prefilter,
-            look_prefilter,
             strategy,
         }
     }

@@ -48,7 +48,7 @@ use Rattle.fancy_search.specs.declared.needed.Needed.{Needed}
 use Rattle.fancy_search.specs.declared.search.Compiled.{Compiled}
 use Rattle.fancy_search.specs.Searches as searches
 use Rattle.fancy_search.specs.declared.search.SearchOptions.{SearchOptions}
-use Rattle.fancy_literals.specs.declared.starts.Starts.{Starts}
+use Rattle.fancy_search.specs.declared.candidates.Candidates.{Candidates}
 use Rattle.fancy_search.specs.Searches.{BeginsAt, IsCompiledFrom, IsCopied, IsMadeWithin, IsNestedOver, Promises, PromisesWithin, input_of, limit_of, program, program_of, instructions_of, options_fit, search_fits}
 
 -- where a character begins or the text ends, the test for a place says yes
@@ -108,13 +108,13 @@ module _ (t : ExprTree) (context : AnalyzeContext) (o : CompileOptions) (ok : Is
     implicit = sym (ap (λ (x : AnalysisOptions). x.explicit_capture_group_0) ((h.root).node).options) ∙ is.implicit;
   }
 
-  pub compiled_from : (i : Info) (prog : Prog) (least : ℕ) (common : Option Common) (needed : Option Needed) (starts : Option Starts) (skips : Bool) →
+  pub compiled_from : (i : Info) (prog : Prog) (least : ℕ) (common : Option Common) (needed : Option Needed) (candidates : Option Candidates) →
       least ≡ (info_size i).least →
       IsAnalysisOf t (analysis_options_of context) i → Compiles (plan_with analysed o) o.max_nesting (Ok prog) → IfSome common (IsCopyOf i o) →
-      IfSome needed (IsNeededBy o.unicode (tree_of t.expr)) → IfSome starts (BeginsAt input) →
+      IfSome needed (IsNeededBy o.unicode (tree_of t.expr)) → IfSome candidates (BeginsAt input) →
       IsCompiledFrom input
-      (record { prog = prog; min_size = least; common = common; needed = needed; starts = starts; skips_starts = skips })
-  compiled_from i prog least common needed starts skips is h compiled copy takes begins = record {
+      (record { prog = prog; min_size = least; common = common; needed = needed; candidates = candidates })
+  compiled_from i prog least common needed candidates is h compiled copy takes begins = record {
     well_formed = ok.0;
     same_end_text = same_end_text;
     analysable = h.accepted;
@@ -127,7 +127,7 @@ module _ (t : ExprTree) (context : AnalyzeContext) (o : CompileOptions) (ok : Is
         omega (arith, same);
     common = copied i h common copy;
     needed = IfSome_then needed takes (λ n of. of input refl refl);
-    starts = begins;
+    candidates = begins;
   }
 
 -- where group 0 is implicit, the tree is accepted

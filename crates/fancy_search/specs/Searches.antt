@@ -34,7 +34,8 @@ use Rattle.fancy_expr.specs.Errors.{error_of}
 use Rattle.fancy_search.specs.Needs.{IsNeededIn}
 use Rattle.fancy_search.specs.Copies.{trees_in}
 use Rattle.fancy_literals.specs.Starts.{AreStartsOf}
-use Rattle.fancy_literals.specs.declared.starts.Starts.{Starts}
+use Rattle.fancy_search.specs.declared.candidates.Candidates.{Candidates}
+use Rattle.fancy_search.specs.declared.candidates.Candidates.TheVariants as candidates
 use Rattle.fancy_starts.specs.Matches.{has_continue}
 use Rattle.fancy_search.specs.declared.common.Common.{Common}
 use Rattle.fancy_search.specs.declared.search.Compiled.{Compiled}
@@ -132,9 +133,14 @@ module _ (i : Input) where
     pub any_end : (i.options).end_text ≡ false
     pub implicit : (i.analysis).explicit_capture_group_0 ≡ false
 
+  -- no match begins elsewhere
+  abbrev pub AreAllOf : Candidates → Type 0
+  AreAllOf candidates.Everywhere = Unit {0}
+  AreAllOf (candidates.At s) = AreStartsOf s (i.options).unicode (i.parsed).tree
+
   -- No match begins elsewhere, and no search depends on where it begins.
-  pub record BeginsAt (s : Starts) : Type 0 where
-    pub starts : AreStartsOf s (i.options).unicode (i.parsed).tree
+  pub record BeginsAt (c : Candidates) : Type 0 where
+    pub all : AreAllOf c
     pub any_start : (i.options).anchored ≡ false
     pub no_continue : has_continue (plan i).analysis.tree ≡ false
 
@@ -162,7 +168,7 @@ module _ (i : Input) where
     -- each match takes what it looks for
     pub needed : IfSome compiled.needed (IsNeededIn i)
     -- its matches begin at its candidates
-    pub starts : IfSome compiled.starts BeginsAt
+    pub candidates : IfSome compiled.candidates BeginsAt
 
 -- it was compiled from some tree
 abbrev pub HasSource : Compiled → Type 0

@@ -1,13 +1,13 @@
 //! Searches from candidates: the starts at which a match may begin.
 
-ghost use Rattle.std.specs.Prelude.{◌≡◌, IfOk, IfSome, IsTrue, None, Some, false, true};
+ghost use Rattle.std.specs.Prelude.{◌≡◌, ◌≤◌, length, IfOk, IfSome, IsTrue, None, Some, false, true};
 ghost use Rattle.fancy_meaning.specs.Fits.{run_fits};
 ghost use Rattle.fancy_meaning.specs.Options as plain;
 ghost use Rattle.fancy_meaning.specs.Premises.{Input};
 ghost use Rattle.fancy_info.specs.declared.context.AnalyzeContext.{AnalyzeContext};
 ghost use Rattle.fancy_steps.specs.Tasks.{options_of as run_options_of, task_of};
 ghost use Rattle.fancy_vm.specs.Scratches as held;
-ghost use Rattle.fancy_search.specs.Candidates.{IsTold, MayGoOn, TellsNoLimit};
+ghost use Rattle.fancy_search.specs.Candidates.{IsTold, TellsNoLimit};
 ghost use Rattle.fancy_search.specs.Searches.{BeginsAt, IsCompiledFrom, input_of, program};
 
 use crate::node_kind::{NodeKind, has_kind};
@@ -19,28 +19,67 @@ use fancy_literals::starts::{Starts, starts_by};
 use fancy_vm::vm::{RunOptions, Scratch, attempt_into, begin_attempts};
 use std::alloc::{AllocError, Global};
 
-/// After so many attempts it is asked whether candidates are near one another.
-const SAMPLE: usize = 16;
+/// At which places attempts of a search are made.
+pub(crate) enum Candidates {
+    /// At each.
+    Everywhere,
+    /// At those where a match of the tree may begin.
+    At(Starts),
+}
 
-/// Where candidates are nearer than so many bytes in the mean, one run that skips starts itself is cheaper than an attempt
-/// from each.
-const NEAR: usize = 16;
+// Not derived: whoever owns one calls this drop, and would prove a derived one again (docs/GATE.md).
+impl Drop for Candidates {
+    fn drop(self) {
+        match self {
+            Candidates::Everywhere => {}
+            Candidates::At(_) => {}
+        }
+    }
+}
 
-/// Where matches of the tree may begin, if the tree is hard and that is known. Nothing is known if a search depends on where
-/// it begins.
-pub(crate) fn starts_of(
+impl Candidates {
+    ghost use Rattle.fancy_search.specs.Candidates.{IsNextCandidate};
+
+    /// The first candidate from byte `from` on, or a byte inside a character.
+    #[inline(always)]
+    fn next(&self, text: &str, from: usize) -> Option<usize>
+        ensures next { IsNextCandidate self.now text.now from result }
+        ensures low { IfSome result (λ at. from ≤ at) }
+        ensures high { IfSome result (λ at. at ≤ length text.now) }
+    {
+        match self {
+            Candidates::Everywhere if from <= text.len() => Some(from),
+            Candidates::Everywhere => None,
+            Candidates::At(starts) => match starts.next(text, from) {
+                None if starts.are_at_end() && from <= text.len() => Some(text.len()),
+                found => found,
+            },
+        }
+    }
+}
+
+/// At which places attempts are made of a search for the tree. It is not known of a hard tree with which bytes its matches
+/// begin, and of one whose matches depend on where a search begins: one run then searches by itself.
+pub(crate) fn candidates_of(
     alloc: Global,
     tree: &ExprTree,
     options: CompileOptions,
     is_hard: bool,
-) -> Result<Option<Starts>, AllocError>
+) -> Result<Option<Candidates>, AllocError>
     ensures { (context : AnalyzeContext) → IfOk result (λ found. IfSome found
         (BeginsAt (input_of tree.now context options))) }
 {
-    if !is_hard || options.anchored || has_kind(NodeKind::Continue, &tree.expr) {
+    if options.anchored || has_kind(NodeKind::Continue, &tree.expr) {
         return Ok(None);
     }
-    starts_by(alloc, &tree.expr, options.unicode)
+    let known = starts_by(alloc, &tree.expr, options.unicode)?;
+    if let Some(starts) = known {
+        return Ok(Some(Candidates::At(starts)));
+    }
+    if is_hard {
+        return Ok(None);
+    }
+    Ok(Some(Candidates::Everywhere))
 }
 
 /// What attempts from candidates tell of a search.
@@ -48,8 +87,8 @@ pub(crate) fn starts_of(
 pub(crate) enum Tried {
     /// Whether there is a match. Its numbers were written.
     Found(bool),
-    /// What a search from this byte on finds.
-    From(usize),
+    /// That is not known: an attempt exceeded a limit, or an allocation failed.
+    Unknown,
 }
 
 /// What attempts may still take.
@@ -96,51 +135,40 @@ impl Compiled {
     pub(crate) fn try_candidates(
         &self,
         alloc: Global,
-        starts: &Starts,
+        candidates: &Candidates,
         text: &str,
         options: &RunOptions,
         runs: &mut Scratch,
         numbers: &mut Vec<usize>,
     ) -> Tried
         requires fits { IsTrue (run_fits (task_of (program self.now) text.now options.now)) }
-        requires starts { self.now.starts ≡ Some starts.now }
+        requires candidates { self.now.candidates ≡ Some candidates.now }
         requires any_start { options.now.anchored ≡ false }
         ensures told { (i : Input) → IsCompiledFrom i self.now
             → IsTold i text.now (run_options_of options.now) numbers.new.items result }
-        ensures on { MayGoOn text.now options.now.pos result }
         ensures limits { held.limits_of runs.new ≡ held.limits_of runs.old }
         ensures limited { TellsNoLimit result (held.passed_of runs.new) }
     {
         begin_attempts(runs);
         let mut from = options.pos;
-        let mut tried = 0usize;
         let mut left = Left {
             backtracks: options.backtrack_limit,
             steps: options.step_limit,
         };
         'candidates: loop {
-            let Some(at) = starts.next(text, from) else {
+            let Some(at) = candidates.next(text, from) else {
                 return Tried::Found(false);
             };
             if is_place(text.as_bytes(), at) {
-                if self.is_dense(tried, at - options.pos) {
-                    return Tried::From(at);
-                }
                 let here = attempt_at(options, at, left);
                 match attempt_into(alloc, &self.prog, text, &here, runs, numbers) {
                     Ok(true) => return Tried::Found(true),
                     Ok(false) => {}
-                    Err(_) => return Tried::From(options.pos),
+                    Err(_) => return Tried::Unknown,
                 }
                 left = left.after(runs.machine_work());
-                tried = tried.saturating_add(1);
             }
             from = at + 1;
         }
-    }
-
-    /// One run is cheaper than more attempts, after so many in so many bytes.
-    fn is_dense(&self, tried: usize, passed: usize) -> bool {
-        self.skips_starts && tried >= SAMPLE && passed / NEAR < tried
     }
 }

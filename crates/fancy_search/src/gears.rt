@@ -1,6 +1,6 @@
 //! Searches by an engine.
 
-ghost use Rattle.std.specs.Prelude.{◌≡◌, ℕ, [], IfOk, IfSome, IsTrue, None, Some, OnOk, false, is_some, option_map};
+ghost use Rattle.std.specs.Prelude.{◌≡◌, IfOk, IfSome, IsTrue, None, Some, OnOk, false, is_some, option_map};
 ghost use Rattle.fancy_meaning.specs.Answer.{answer, search_of};
 ghost use Rattle.fancy_meaning.specs.Fits.{run_fits};
 ghost use Rattle.fancy_meaning.specs.Premises.{Input, plan};
@@ -9,18 +9,16 @@ ghost use Rattle.fancy_steps.specs.Outcomes.{answer_in, first_pair};
 ghost use Rattle.fancy_steps.specs.SearchLimits.{StaysWithin};
 ghost use Rattle.fancy_steps.specs.Tasks.{options_of as run_options_of, task_of};
 ghost use Rattle.fancy_search.specs.Scratches.{Suits, limits_of, passed_of};
-ghost use Rattle.fancy_search.specs.Candidates.{IsTold, MayGoOn, from_byte};
-ghost use Rattle.fancy_search.specs.declared.candidates.Tried.TheVariants as tried;
 ghost use Rattle.fancy_search.specs.Searches.{Bounds, IsCompiledFrom, Promises, PromisesPair, program};
 
-use crate::candidates::Tried;
+use crate::candidates::{Candidates, Tried};
 use crate::scratch::Scratch;
 use crate::search::Compiled;
 use fancy_expr::error::Error;
 use fancy_hybrid::search::{Stop, search_into};
-use fancy_literals::starts::Starts;
-use fancy_vm::vm::{RunOptions, SearchLimit, SearchLimits, run_into, run_spans};
+use fancy_vm::vm::{RunOptions, SearchLimit, SearchLimits, pair_of, run_into};
 use std::alloc::Global;
+use std::mem;
 
 /// Whether these options ask for the first match at any start.
 pub(crate) fn is_plain(options: &RunOptions) -> bool
@@ -37,25 +35,6 @@ fn end_of(text: &str, is_match: bool, numbers: &Vec<usize>) -> usize {
         (true, Some(end)) => *end,
         _ => text.len(),
     }
-}
-
-/// The same options, from this byte on.
-fn from_byte(options: &RunOptions, at: usize) -> RunOptions
-    ensures { run_options_of result ≡ from_byte at (run_options_of options.now) }
-{
-    let mut later = *options;
-    later.pos = at;
-    later
-}
-
-/// Start and end of the match that has these numbers.
-fn pair_of(numbers: &Vec<usize>) -> (usize, usize)
-    ensures { result ≡ first_pair numbers.now.items }
-{
-    (
-        numbers.get(0).copied().unwrap_or(usize::MAX),
-        numbers.get(1).copied().unwrap_or(usize::MAX),
-    )
 }
 
 impl Compiled {
@@ -114,7 +93,7 @@ impl Compiled {
     }
 
     /// As `find`, by the engine, which may give up.
-    fn find_by_engine(
+    pub(crate) fn find_by_engine(
         &self,
         alloc: Global,
         text: &str,
@@ -192,38 +171,6 @@ impl Compiled {
         }
     }
 
-    /// As `find`, by a run. If an engine may search, there is no answer once the run has taken many visits.
-    pub(crate) fn find_in_first_gear(
-        &self,
-        alloc: Global,
-        text: &str,
-        options: &RunOptions,
-        scratch: &mut Scratch,
-    ) -> Option<Result<Option<(usize, usize)>, Error>>
-        requires fits { IsTrue (run_fits (task_of (program self.now) text.now options.now)) }
-        requires suits { Suits self.now scratch.old }
-        ensures promise { (i : Input)
-            → IsCompiledFrom i self.now
-            → IfSome result (PromisesPair i text.now (run_options_of options.now)) }
-        ensures limits { limits_of scratch.new ≡ limits_of scratch.old }
-        ensures stays { IfSome result (λ r. StaysWithin r (passed_of scratch.new)) }
-        ensures suits { Suits self.now scratch.new }
-    {
-        let Some(short) = self.short_limits(options, scratch) else {
-            return Some(self.find_by_run(alloc, text, options, scratch));
-        };
-        let limits = scratch.limits();
-        scratch.limit(short);
-        let answer = self.find_by_run(alloc, text, options, scratch);
-        let passed = scratch.passed();
-        scratch.limit(limits);
-        match passed {
-            None => Some(answer),
-            Some(SearchLimit::Visits) => None,
-            Some(SearchLimit::Bytes) => Some(self.find_by_run(alloc, text, options, scratch)),
-        }
-    }
-
     /// As `search_into`, by an engine, or by a run if that gives up.
     pub(crate) fn search_in_second_gear(
         &self,
@@ -255,8 +202,38 @@ impl Compiled {
         }
     }
 
-    /// As `find`, by an engine, or by a run if that gives up.
-    pub(crate) fn find_in_second_gear(
+    /// As `search_into`, by the gear that is due.
+    pub(crate) fn search_by_gears(
+        &self,
+        alloc: Global,
+        text: &str,
+        options: &RunOptions,
+        scratch: &mut Scratch,
+        numbers: &mut Vec<usize>,
+    ) -> Result<bool, Error>
+        requires fits { IsTrue (run_fits (task_of (program self.now) text.now options.now)) }
+        requires suits { Suits self.now scratch.old }
+        ensures promise { (i : Input)
+            → IsCompiledFrom i self.now
+            → Promises i text.now (run_options_of options.now) (answer_in result numbers.new) }
+        ensures bounds { (i : Input)
+            → IsCompiledFrom i self.now
+            → Bounds i text.now (run_options_of options.now) (answer_in result numbers.new) }
+        ensures limits { limits_of scratch.new ≡ limits_of scratch.old }
+        ensures stays { StaysWithin result (passed_of scratch.new) }
+        ensures suits { Suits self.now scratch.new }
+    {
+        if self.is_due(options, scratch) {
+            return self.search_in_second_gear(alloc, text, options, scratch, numbers);
+        }
+        match self.search_in_first_gear(alloc, text, options, scratch, numbers) {
+            Some(answer) => answer,
+            None => self.search_in_second_gear(alloc, text, options, scratch, numbers),
+        }
+    }
+
+    /// As `find`, by the numbers of all groups.
+    pub(crate) fn find_by_numbers(
         &self,
         alloc: Global,
         text: &str,
@@ -272,28 +249,25 @@ impl Compiled {
         ensures stays { StaysWithin result (passed_of scratch.new) }
         ensures suits { Suits self.now scratch.new }
     {
-        match self.find_by_engine(alloc, text, options, scratch) {
-            Ok(found) => Ok(found),
-            Err(Stop::Memory) => Err(Error::Memory),
-            Err(Stop::GaveUp) => {
-                scratch.give_up_engine();
-                self.find_by_run(alloc, text, options, scratch)
-            }
-        }
+        let mut numbers = mem::replace(&mut scratch.numbers, Vec::new(alloc));
+        let answer = self.search_by_gears(alloc, text, options, scratch, &mut numbers);
+        let pair = pair_of(&numbers);
+        scratch.numbers = numbers;
+        if answer? { Ok(Some(pair)) } else { Ok(None) }
     }
 
     /// The candidates, if they are known and these options ask for more than one start.
-    fn starts_for(&self, options: &RunOptions) -> Option<&Starts>
-        ensures known { IfSome result (λ starts. self.now.starts ≡ Some starts.now) }
+    fn candidates_for(&self, options: &RunOptions) -> Option<&Candidates>
+        ensures known { IfSome result (λ it. self.now.candidates ≡ Some it.now) }
         ensures any_start { IfSome result (λ _. options.now.anchored ≡ false) }
     {
         if options.anchored {
             return None;
         }
-        self.starts.as_ref()
+        self.candidates.as_ref()
     }
 
-    /// As `search_into`, from candidates if they are known, else by a run.
+    /// As `search_into`, from candidates if they are known, else by one run.
     fn search_by_run(
         &self,
         alloc: Global,
@@ -314,49 +288,18 @@ impl Compiled {
         ensures stays { StaysWithin result (passed_of scratch.new) }
         ensures suits { Suits self.now scratch.new }
     {
-        let Some(starts) = self.starts_for(options) else {
+        let Some(candidates) = self.candidates_for(options) else {
             return self.search_by_one_run(alloc, text, options, scratch, numbers);
         };
         let runs = &mut scratch.runs;
-        match self.try_candidates(alloc, starts, text, options, runs, numbers) {
-            Tried::Found(found) => Ok(found),
-            Tried::From(at) => self.search_on(alloc, text, options, at, scratch, numbers),
-        }
-    }
-
-    /// As `search_into`, if a search from byte `at` on answers the same: by a run from there, or if that has no answer by
-    /// one of the whole search.
-    fn search_on(
-        &self,
-        alloc: Global,
-        text: &str,
-        options: &RunOptions,
-        at: usize,
-        scratch: &mut Scratch,
-        numbers: &mut Vec<usize>,
-    ) -> Result<bool, Error>
-        requires fits { IsTrue (run_fits (task_of (program self.now) text.now options.now)) }
-        requires on { MayGoOn text.now options.now.pos (tried.From at) }
-        requires told { (i : Input) → IsCompiledFrom i self.now
-            → IsTold i text.now (run_options_of options.now) [] (tried.From at) }
-        requires suits { Suits self.now scratch.old }
-        ensures promise { (i : Input)
-            → IsCompiledFrom i self.now
-            → Promises i text.now (run_options_of options.now) (answer_in result numbers.new) }
-        ensures bounds { (i : Input)
-            → IsCompiledFrom i self.now
-            → Bounds i text.now (run_options_of options.now) (answer_in result numbers.new) }
-        ensures limits { limits_of scratch.new ≡ limits_of scratch.old }
-        ensures stays { StaysWithin result (passed_of scratch.new) }
-        ensures suits { Suits self.now scratch.new }
-    {
-        if at > options.pos {
-            let later = from_byte(options, at);
-            if let Ok(found) = self.search_by_one_run(alloc, text, &later, scratch, numbers) {
-                return Ok(found);
+        match self.try_candidates(alloc, candidates, text, options, runs, numbers) {
+            Tried::Found(found) => {
+                scratch.count(end_of(text, found, numbers).saturating_sub(options.pos));
+                Ok(found)
             }
+            Tried::Unknown if scratch.passed().is_some() => Err(Error::Memory),
+            Tried::Unknown => self.search_by_one_run(alloc, text, options, scratch, numbers),
         }
-        self.search_by_one_run(alloc, text, options, scratch, numbers)
     }
 
     /// As `search_into`, by one run.
@@ -387,92 +330,6 @@ impl Compiled {
             Err(_) => false,
         };
         scratch.count(end_of(text, found, numbers).saturating_sub(options.pos));
-        answer
-    }
-
-    /// As `find`, from candidates if they are known, else by a run.
-    fn find_by_run(
-        &self,
-        alloc: Global,
-        text: &str,
-        options: &RunOptions,
-        scratch: &mut Scratch,
-    ) -> Result<Option<(usize, usize)>, Error>
-        requires fits { IsTrue (run_fits (task_of (program self.now) text.now options.now)) }
-        requires suits { Suits self.now scratch.old }
-        ensures promise { (i : Input)
-            → IsCompiledFrom i self.now
-            → PromisesPair i text.now (run_options_of options.now) result }
-        ensures limits { limits_of scratch.new ≡ limits_of scratch.old }
-        ensures stays { StaysWithin result (passed_of scratch.new) }
-        ensures suits { Suits self.now scratch.new }
-    {
-        let Some(starts) = self.starts_for(options) else {
-            return self.find_by_one_run(alloc, text, options, scratch);
-        };
-        let runs = &mut scratch.runs;
-        let numbers = &mut scratch.numbers;
-        match self.try_candidates(alloc, starts, text, options, runs, numbers) {
-            Tried::Found(true) => Ok(Some(pair_of(&scratch.numbers))),
-            Tried::Found(false) => Ok(None),
-            Tried::From(at) => self.find_on(alloc, text, options, at, scratch),
-        }
-    }
-
-    /// As `find`, if a search from byte `at` on answers the same: by a run from there, or if that has no answer by one of
-    /// the whole search.
-    fn find_on(
-        &self,
-        alloc: Global,
-        text: &str,
-        options: &RunOptions,
-        at: usize,
-        scratch: &mut Scratch,
-    ) -> Result<Option<(usize, usize)>, Error>
-        requires fits { IsTrue (run_fits (task_of (program self.now) text.now options.now)) }
-        requires on { MayGoOn text.now options.now.pos (tried.From at) }
-        requires told { (i : Input) → IsCompiledFrom i self.now
-            → IsTold i text.now (run_options_of options.now) [] (tried.From at) }
-        requires suits { Suits self.now scratch.old }
-        ensures promise { (i : Input)
-            → IsCompiledFrom i self.now
-            → PromisesPair i text.now (run_options_of options.now) result }
-        ensures limits { limits_of scratch.new ≡ limits_of scratch.old }
-        ensures stays { StaysWithin result (passed_of scratch.new) }
-        ensures suits { Suits self.now scratch.new }
-    {
-        if at > options.pos {
-            let later = from_byte(options, at);
-            if let Ok(found) = self.find_by_one_run(alloc, text, &later, scratch) {
-                return Ok(found);
-            }
-        }
-        self.find_by_one_run(alloc, text, options, scratch)
-    }
-
-    /// As `find`, by one run.
-    fn find_by_one_run(
-        &self,
-        alloc: Global,
-        text: &str,
-        options: &RunOptions,
-        scratch: &mut Scratch,
-    ) -> Result<Option<(usize, usize)>, Error>
-        requires fits { IsTrue (run_fits (task_of (program self.now) text.now options.now)) }
-        requires suits { Suits self.now scratch.old }
-        ensures promise { (i : Input)
-            → IsCompiledFrom i self.now
-            → PromisesPair i text.now (run_options_of options.now) result }
-        ensures limits { limits_of scratch.new ≡ limits_of scratch.old }
-        ensures stays { StaysWithin result (passed_of scratch.new) }
-        ensures suits { Suits self.now scratch.new }
-    {
-        let answer = run_spans(alloc, &self.prog, text, options, &mut scratch.runs);
-        let end = match &answer {
-            Ok(Some((_, end))) => *end,
-            _ => text.len(),
-        };
-        scratch.count(end.saturating_sub(options.pos));
         answer
     }
 }

@@ -16,7 +16,7 @@ ghost use Rattle.fancy_search.specs.Searches.{Bounds, IsCompiledFrom, IsMadeWith
 ghost use Rattle.fancy_search.specs.Searches as searches;
 ghost use Rattle.fancy_search.specs.Scratches.{Suits, limits_of, passed_of};
 
-use crate::candidates::starts_of;
+use crate::candidates::{Candidates, candidates_of};
 use crate::common::{Common, common_of};
 use crate::needed::{Needed, needed_by};
 use crate::scratch::Scratch;
@@ -25,7 +25,7 @@ use fancy_characters::places::is_place;
 use fancy_compile::compile::{CompileOptions, compile};
 use fancy_expr::error::Error;
 use fancy_expr::expr::ExprTree;
-use fancy_literals::starts::Starts;
+use fancy_hybrid::search::Stop;
 use fancy_vm::vm::{Prog, RunOptions};
 use std::alloc::Global;
 
@@ -103,10 +103,8 @@ pub struct Compiled {
     pub(crate) common: Option<Common>,
     /// What each match takes, if something is known.
     needed: Option<Needed>,
-    /// Where its matches may begin, if that is known and its program is run for searches.
-    pub(crate) starts: Option<Starts>,
-    /// Runs of the program skip starts by themselves.
-    pub(crate) skips_starts: bool,
+    /// At which places attempts of a search are made, if not by one run.
+    pub(crate) candidates: Option<Candidates>,
 }
 
 // Not derived: whoever owns one calls this drop, and would prove a derived one again (docs/GATE.md).
@@ -117,8 +115,7 @@ impl Drop for Compiled {
             min_size: _,
             common: _,
             needed: _,
-            starts: _,
-            skips_starts: _,
+            candidates: _,
         } = self;
     }
 }
@@ -149,17 +146,15 @@ impl Compiled {
         let info = analyze(alloc, tree, context)?;
         let min_size = info.min_size();
         let prog = compile(alloc, &info, options)?;
-        let skips_starts = prog.prefilter.is_some() || prog.look_prefilter.is_some();
         let common = common_of(prog.body(), &info, options)?;
         let needed = needed_by(alloc, &tree.expr, options.unicode, info.hard())?;
-        let starts = starts_of(alloc, tree, options, info.hard())?;
+        let candidates = candidates_of(alloc, tree, options, info.hard())?;
         Ok(Compiled {
             prog,
             min_size,
             common,
             needed,
-            starts,
-            skips_starts,
+            candidates,
         })
     }
 
@@ -179,8 +174,7 @@ impl Compiled {
             min_size: _,
             common: _,
             needed: _,
-            starts: _,
-            skips_starts: _,
+            candidates: _,
         } = self;
         prog
     }
@@ -298,13 +292,7 @@ impl Compiled {
             scratch.limit(scratch.limits());
             return Ok(false);
         }
-        if self.is_due(options, scratch) {
-            return self.search_in_second_gear(alloc, text, options, scratch, numbers);
-        }
-        match self.search_in_first_gear(alloc, text, options, scratch, numbers) {
-            Some(answer) => answer,
-            None => self.search_in_second_gear(alloc, text, options, scratch, numbers),
-        }
+        self.search_by_gears(alloc, text, options, scratch, numbers)
     }
 
     /// As `search`, by a run alone: a search that exceeds a limit says so.
@@ -358,12 +346,13 @@ impl Compiled {
             return Ok(None);
         }
         if self.is_due(options, scratch) {
-            return self.find_in_second_gear(alloc, text, options, scratch);
+            match self.find_by_engine(alloc, text, options, scratch) {
+                Ok(found) => return Ok(found),
+                Err(Stop::Memory) => return Err(Error::Memory),
+                Err(Stop::GaveUp) => scratch.give_up_engine(),
+            }
         }
-        match self.find_in_first_gear(alloc, text, options, scratch) {
-            Some(answer) => answer,
-            None => self.find_in_second_gear(alloc, text, options, scratch),
-        }
+        self.find_by_numbers(alloc, text, options, scratch)
     }
 }
 

@@ -2,14 +2,12 @@
 #![tactic(auto)]
 
 mod delegates;
-pub mod limits;
 pub mod longest;
 pub mod machine;
 pub mod memos;
 pub mod options;
 mod run;
 pub mod search_limits;
-pub mod starts;
-mod steps;
+pub mod steps;
 mod trailing_newlines;
 pub mod walks;

@@ -43,8 +43,6 @@ pub struct Machine<'a> {
     /// Where the attempt began.
     pub start: usize,
     pub backtracks: usize,
-    /// How many instructions after the first one stand for the last step that passed over starts.
-    pub passed: u64,
     /// How many of the instructions that the run may execute were left when it ended; 0 before, and after an error.
     pub left: u64,
     pub state: State,
@@ -60,8 +58,6 @@ pub struct Machine<'a> {
 #[derive(Clone, Copy)]
 pub enum Next {
     On,
-    /// Starts were passed over.
-    Passed,
     /// The machine is to backtrack to the last branch. No step answers so, but a part of one.
     Fails,
     /// The match of the machine's slots is answered.
@@ -82,7 +78,6 @@ pub enum Stop {
 #[derive(Clone, Copy)]
 pub(crate) enum PackedStep {
     On,
-    Passed,
     Fails,
     Matches,
     Ends,
@@ -101,7 +96,6 @@ impl PackedStep {
     {
         match step {
             Ok(Next::On) => PackedStep::On,
-            Ok(Next::Passed) => PackedStep::Passed,
             Ok(Next::Fails) => PackedStep::Fails,
             Ok(Next::Matches) => PackedStep::Matches,
             Ok(Next::Ends) => PackedStep::Ends,
@@ -120,7 +114,6 @@ impl PackedStep {
     {
         match self {
             PackedStep::On => Ok(Next::On),
-            PackedStep::Passed => Ok(Next::Passed),
             PackedStep::Fails => Ok(Next::Fails),
             PackedStep::Matches => Ok(Next::Matches),
             PackedStep::Ends => Ok(Next::Ends),
@@ -176,7 +169,6 @@ impl<'a> Machine<'a> {
             ix: pos,
             start: pos,
             backtracks: 0,
-            passed: 0,
             left: 0,
             state,
             longest,
@@ -226,7 +218,6 @@ impl<'a> Machine<'a> {
         requires some { 0 < length self.old.state.held.branches }
         requires within { self.old.backtracks < self.old.task.options.now.backtrack_limit }
         ensures task { self.new.task ≡ self.old.task }
-        ensures passed { self.new.passed ≡ self.old.passed }
         ensures fewer { length self.new.state.held.branches < length self.old.state.held.branches }
         ensures falls { machine.fail (plain_task self.old.task) (config_of self.old)
             ≡ config.Goes (config_of self.new) }

@@ -2,7 +2,7 @@
 
 ghost use Rattle.std.specs.Prelude.{◌≡◌, ◌<◌, ◌+◌, ◌/◌, if◌then◌else◌, min, nat_lt, Some, None, length, max, slice_get, slice_set, IfOk, IsTrue, OnOk};
 ghost use Rattle.fancy_meaning.specs.Places.{is_place};
-ghost use Rattle.fancy_fragments.specs.Fragments.{IsFirstWayOf, IsOnePassWayOf};
+ghost use Rattle.fancy_fragments.specs.Fragments.{IsFirstWayOf, IsOnePassOf, IsOnePassWayOf};
 ghost use Rattle.fancy_nfa.specs.GroupSpans.{spans_in};
 ghost use Rattle.fancy_nfa.specs.Ways.{HasAscending};
 ghost use Rattle.fancy_steps.specs.MemoRuns.{AddsNoMemo, AreOfRuns};
@@ -115,6 +115,11 @@ impl Memos {
         self.read = 0;
     }
 
+    /// What the searches, walks and comparisons of this run cost so far, in visits.
+    pub fn work(&self) -> u64 {
+        self.cost.visits.saturating_add(self.read as u64)
+    }
+
     /// Counts what a walk or a comparison of this run cost, in visits.
     #[inline(always)]
     pub(crate) fn count_read(&mut self, read: usize)
@@ -178,7 +183,7 @@ impl Memos {
 
     /// A search noted something of the delegate there in this run.
     #[inline(always)]
-    pub(crate) fn has_noted(&self, pc: usize) -> bool {
+    fn has_noted(&self, pc: usize) -> bool {
         match self.by_place.get(pc) {
             Some(Some(note)) => note.run == self.run,
             _ => false,
@@ -205,6 +210,35 @@ impl Memos {
             None => None,
             Some(span) => *span,
         }
+    }
+
+    /// The first way from `ix` of the fragment at `pc` of the program, where it takes one pass and sets no group, until a
+    /// search has noted something in this run: so no part of the text is passed in vain from one start after the other. An
+    /// error also where the run has too many visits.
+    #[inline(always)]
+    pub fn one_pass_end(
+        &mut self,
+        task: &Task<'_>,
+        fragment: &Fragment,
+        pc: usize,
+        ix: usize,
+    ) -> Result<OnePass, AllocError>
+        requires place { IsTrue (is_place task.now.text.now ix) }
+        requires memos { AreMemosOf task.now self.old }
+        ensures way { IfOk result (IsOnePassOf task.now.text.now fragment.now ix) }
+        ensures memos { AreMemosOf task.now self.new }
+    {
+        if self.are_too_many(task) {
+            return Err(AllocError);
+        }
+        if self.has_noted(pc) {
+            return Ok(OnePass::Unknown);
+        }
+        let mut read = 0;
+        let nfa = fragment.nfa();
+        let way = nfa.one_pass_end(task.alloc, task.text, ix, &mut read)?;
+        self.count_read(passed(read));
+        Ok(way)
     }
 
     /// The first way from `ix` of the fragment at `pc` of the program: by one pass, or else by a search with what earlier

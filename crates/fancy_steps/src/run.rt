@@ -4,7 +4,7 @@ ghost use Rattle.std.specs.Prelude.{◌≡◌, IsTrue, IsUtf8, false};
 ghost use Rattle.fancy_meaning.specs.Machine as machine;
 ghost use Rattle.fancy_meaning.specs.Places.{is_place};
 ghost use Rattle.fancy_steps.specs.Memos.{AreMemosOf};
-ghost use Rattle.fancy_steps.specs.Outcomes.{RunEnds, RunAnswers, RunAnswersPair, answer_in, config_of, ending, plain_task};
+ghost use Rattle.fancy_steps.specs.Outcomes.{RunEnds, RunAnswers, answer_in, config_of, ending, plain_task};
 
 use crate::machine::{Machine, Next, Stop};
 use crate::memos::Memos;
@@ -31,7 +31,6 @@ impl Machine<'_> {
             left -= 1;
             match self.step(body, memos)? {
                 Next::On => {}
-                Next::Passed => left = left.saturating_sub(self.passed),
                 Next::Fails => unreachable!(),
                 Next::Matches => {
                     self.left = left;
@@ -71,20 +70,5 @@ impl Machine<'_> {
         }
         self.copy_numbers(numbers)?;
         Ok(true)
-    }
-
-    /// The first pair of the numbers that the run answers.
-    pub fn answer_pair(&mut self, memos: &mut Memos) -> Result<Option<(usize, usize)>, Error>
-        requires begins { config_of self.old ≡ machine.begin (plain_task self.old.task) }
-        requires text { IsUtf8 self.old.task.text.now }
-        requires place { IsTrue (is_place self.old.task.text.now self.old.task.options.now.pos) }
-        requires memos { AreMemosOf self.old.task memos.old }
-        ensures answers { RunAnswersPair (machine.run (plain_task self.old.task)) result }
-        ensures memos { AreMemosOf self.old.task memos.new }
-    {
-        if !self.run(memos)? {
-            return Ok(self.longest.first_pair());
-        }
-        Ok(Some(self.first_pair()))
     }
 }

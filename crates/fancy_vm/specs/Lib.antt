@@ -4,6 +4,5 @@ pub mod Bounds
 pub mod Steppers
 pub mod StepperSteps
 pub mod Founds
-pub mod HeldWays
 pub mod Scratches
 pub mod Attempts

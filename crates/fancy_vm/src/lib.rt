@@ -2,7 +2,6 @@
 #![tactic(auto)]
 
 mod runs;
-mod single_delegate;
 mod stepper;
 mod strategy;
 pub mod vm;

@@ -7,9 +7,8 @@ ghost use Rattle.fancy_meaning.specs.Fits.{run_fits};
 ghost use Rattle.fancy_meaning.specs.Premises.{IsText};
 ghost use Rattle.fancy_vm.specs.Attempts.{MayAttempt};
 ghost use Rattle.fancy_vm.specs.Bounds.{IfLimit, RunMayPass};
-ghost use Rattle.fancy_vm.specs.Founds.{IsMatchWith};
 ghost use Rattle.fancy_vm.specs.Means.{IsMeaning, IsMeaningPair, numbers_of};
-ghost use Rattle.fancy_steps.specs.Outcomes.{RunAnswers, RunAnswersPair, answer_in, held_match, plain_task};
+ghost use Rattle.fancy_steps.specs.Outcomes.{RunAnswers, RunAnswersPair, answer_in, first_pair, held_match, plain_task};
 ghost use Rattle.fancy_vm.specs.Ready.{AreFresh, AreMemosIn, IsReady, KeepsMemos};
 ghost use Rattle.fancy_steps.specs.SearchLimits.{StaysWithin, is_past, exceeds_bytes, no_cost, no_limits};
 ghost use Rattle.fancy_state.specs.Held.{first_state};
@@ -19,7 +18,7 @@ ghost use Rattle.fancy_program.specs.declared.insn.Prog as progs;
 ghost use Rattle.fancy_vm.specs.Scratches.{IsUnused, allocator_of, cost_of, limits_of, passed_of};
 ghost use Rattle.fancy_steps.specs.Tasks.{default_at, default_task, options_of, task_of};
 
-use crate::strategy::{Found, run_by_strategy, write_groups, write_pair};
+use crate::strategy::{Found, attempt_by_strategy, write_groups, write_pair};
 use fancy_expr::error::Error;
 use fancy_program::insn::Prog;
 use fancy_program::threads::crosses_threads;
@@ -210,18 +209,8 @@ pub fn run_into(
     ensures limits { limits_of scratch.new ≡ limits_of scratch.old }
     ensures stays { StaysWithin result (passed_of scratch.new) }
 {
-    let task = Task {
-        prog,
-        text,
-        options,
-        alloc,
-        limits: scratch.limits,
-    };
-    let answer = scratch.room.run_into(&task, numbers);
-    match scratch.passed() {
-        None => answer,
-        Some(_) => Err(Error::Memory),
-    }
+    begin_attempts(scratch);
+    attempt_into(alloc, prog, text, options, scratch, numbers)
 }
 
 /// Attempts of one search may follow, of one program on one text: none of them took or noted anything yet.
@@ -234,8 +223,8 @@ pub fn begin_attempts(scratch: &mut Scratch)
     scratch.room.forget_cost();
 }
 
-/// As `run_into` by the machine, for one attempt of a search (`begin_attempts`): what earlier ones noted of the text
-/// stays, and what they took counts to the limits of the scratch. After an error, too, others may follow.
+/// As `run_into`, for one attempt of a search (`begin_attempts`): what earlier ones noted of the text stays, and what they
+/// took counts to the limits of the scratch. After an error, too, others may follow.
 pub fn attempt_into(
     alloc: Global,
     prog: &Prog,
@@ -288,18 +277,21 @@ pub fn run_spans(
     ensures limits { limits_of scratch.new ≡ limits_of scratch.old }
     ensures stays { StaysWithin result (passed_of scratch.new) }
 {
-    let task = Task {
-        prog,
-        text,
-        options,
-        alloc,
-        limits: scratch.limits,
-    };
-    let answer = scratch.room.run_spans(&task);
-    match scratch.passed() {
-        None => answer,
-        Some(_) => Err(Error::Memory),
+    let mut numbers = Vec::new(alloc);
+    if !run_into(alloc, prog, text, options, scratch, &mut numbers)? {
+        return Ok(None);
     }
+    Ok(Some(pair_of(&numbers)))
+}
+
+/// Start and end of the match that has these numbers.
+pub fn pair_of(numbers: &[usize]) -> (usize, usize)
+    ensures { result ≡ first_pair numbers.now }
+{
+    (
+        numbers.get(0).copied().unwrap_or(usize::MAX),
+        numbers.get(1).copied().unwrap_or(usize::MAX),
+    )
 }
 
 /// As `run` with default options from `pos` on, a byte of the text, and with memory of its own.
@@ -328,40 +320,6 @@ fn wants_memory<T>(answer: &Result<T, Error>) -> bool {
 impl Room {
     ghost use Rattle.fancy_vm.specs.Scratches.{cost_in};
 
-    /// Whether there is a match. Its numbers are written over these.
-    fn run_into(&mut self, task: &Task<'_>, numbers: &mut Vec<usize>) -> Result<bool, Error>
-        requires text { IsText task.now.text.now }
-        requires fits { IsTrue (run_fits (plain_task task.now)) }
-        ensures { RunAnswers (machine.run (plain_task task.now)) (answer_in result numbers.new) }
-    {
-        self.forget_cost();
-        match run_by_strategy(task, self)? {
-            Found::Match(start, end) => {
-                write_pair(task, numbers, start, end)?;
-                Ok(true)
-            }
-            Found::WithGroups(start, end) => self.write_match(task, numbers, start, end),
-            Found::NoMatch => Ok(false),
-            Found::Unknown => self.answer(task, numbers),
-        }
-    }
-
-    /// The first pair of the numbers.
-    fn run_spans(&mut self, task: &Task<'_>) -> Result<Option<(usize, usize)>, Error>
-        requires text { IsText task.now.text.now }
-        requires fits { IsTrue (run_fits (plain_task task.now)) }
-        ensures { RunAnswersPair (machine.run (plain_task task.now)) result }
-    {
-        self.forget_cost();
-        match run_by_strategy(task, self)? {
-            Found::Match(start, end) | Found::WithGroups(start, end) => {
-                Ok(Some((start.min(end), end)))
-            }
-            Found::NoMatch => Ok(None),
-            Found::Unknown => self.answer_pair(task),
-        }
-    }
-
     /// What the delegates of the last run took.
     #[inline(always)]
     pub(crate) fn cost(&self) -> SearchCost
@@ -373,12 +331,15 @@ impl Room {
         }
     }
 
-    /// Counts an attempt that failed, after which walks of the run have cost so many visits.
+    /// Counts an attempt that failed.
     #[inline(always)]
-    pub(crate) fn count_attempt(&mut self, walked: usize)
+    fn count_attempt(&mut self)
         ensures { self.new.memos ≡ self.old.memos }
     {
-        let visits = self.cost().visits.saturating_add(walked as u64);
+        let visits = match &self.memos {
+            None => 0,
+            Some(memos) => memos.work(),
+        };
         let taken = visits.saturating_sub(self.visits) / VISITS;
         self.visits = visits;
         self.spent = self.spent.saturating_add(taken.saturating_add(1) as usize);
@@ -395,38 +356,8 @@ impl Room {
         }
     }
 
-    /// Writes the numbers of a match with the groups that the memos hold over these.
-    #[inline(never)]
-    fn write_match(
-        &self,
-        task: &Task<'_>,
-        numbers: &mut Vec<usize>,
-        start: usize,
-        end: usize,
-    ) -> Result<bool, Error>
-        requires { IsMatchWith (plain_task task.now) start end self.now.memos }
-        ensures { RunAnswers (machine.run (plain_task task.now)) (answer_in result numbers.new) }
-    {
-        let Some(memos) = &self.memos else {
-            unreachable!()
-        };
-        write_groups(task, memos, numbers, start, end)?;
-        Ok(true)
-    }
-
-    /// The machine's answer, whose numbers are written over these.
-    #[inline(never)]
-    fn answer(&mut self, task: &Task<'_>, numbers: &mut Vec<usize>) -> Result<bool, Error>
-        requires { IsTrue (run_fits (plain_task task.now)) }
-        ensures { RunAnswers (machine.run (plain_task task.now)) (answer_in result numbers.new) }
-    {
-        self.renew(task)?;
-        self.answer_renewed(task, numbers)
-    }
-
-    /// The machine's answer to an attempt, whose numbers are written over these. `Memory` too where earlier ones exceeded
-    /// a limit.
-    #[inline(never)]
+    /// The answer to an attempt, whose numbers are written over these. `Memory` too where earlier ones exceeded a limit.
+    #[inline(always)]
     fn attempt(&mut self, task: &Task<'_>, numbers: &mut Vec<usize>) -> Result<bool, Error>
         requires fits { IsTrue (run_fits (plain_task task.now)) }
         requires memos { AreMemosIn task.now self.old.memos }
@@ -439,15 +370,30 @@ impl Room {
         if task.limits.passed_by(self.cost()).is_some() {
             return Err(Error::Memory);
         }
-        self.renew_state(task.prog.parts.slots)?;
-        self.answer_renewed(task, numbers)
+        let Some(memos) = &mut self.memos else {
+            unreachable!()
+        };
+        match attempt_by_strategy(task, memos)? {
+            Found::Match(start, end) => {
+                write_pair(task, numbers, start, end)?;
+                Ok(true)
+            }
+            Found::WithGroups(start, end) => {
+                write_groups(task, memos, numbers, start, end)?;
+                Ok(true)
+            }
+            Found::NoMatch => {
+                self.count_attempt();
+                Ok(false)
+            }
+            Found::Unknown => self.answer(task, numbers),
+        }
     }
 
-    /// The machine's answer from a state and with memos that are made ready. Its numbers are written over these.
-    #[inline(always)]
-    fn answer_renewed(&mut self, task: &Task<'_>, numbers: &mut Vec<usize>) -> Result<bool, Error>
+    /// The machine's answer, whose numbers are written over these.
+    #[inline(never)]
+    fn answer(&mut self, task: &Task<'_>, numbers: &mut Vec<usize>) -> Result<bool, Error>
         requires fits { IsTrue (run_fits (plain_task task.now)) }
-        requires state { IsReady task.now.prog.now.parts.slots self.old.state }
         requires memos { AreMemosIn task.now self.old.memos }
         ensures answers { RunAnswers
             (machine.run (plain_task task.now))
@@ -455,6 +401,7 @@ impl Room {
         ensures memos { AreMemosIn task.now self.new.memos }
     {
         let slots = task.prog.parts.slots;
+        self.renew_state(slots)?;
         let mut m = Machine::begin(task, self.take_state(slots), self.take_longest());
         let Some(memos) = &mut self.memos else {
             unreachable!()
@@ -462,38 +409,6 @@ impl Room {
         let answer = m.answer(memos, numbers);
         self.keep(m, wants_memory(&answer));
         answer
-    }
-
-    /// The first pair of the machine's answer.
-    #[inline(never)]
-    fn answer_pair(&mut self, task: &Task<'_>) -> Result<Option<(usize, usize)>, Error>
-        requires { IsTrue (run_fits (plain_task task.now)) }
-        ensures { RunAnswersPair (machine.run (plain_task task.now)) result }
-    {
-        let slots = task.prog.parts.slots;
-        self.renew(task)?;
-        let mut m = Machine::begin(task, self.take_state(slots), self.take_longest());
-        let Some(memos) = &mut self.memos else {
-            unreachable!()
-        };
-        let answer = m.answer_pair(memos);
-        self.keep(m, wants_memory(&answer));
-        answer
-    }
-
-    /// What the machine of the task begins with, in the memory that is there. `Memory` too where the run exceeded a limit
-    /// before it came to the machine.
-    #[inline(always)]
-    fn renew(&mut self, task: &Task<'_>) -> Result<(), Error>
-        ensures state { OnOk result (IsReady task.now.prog.now.parts.slots self.new.state) }
-        ensures memos { OnOk result (AreFresh self.new.memos) }
-        ensures err { IfErr result IsMemory }
-    {
-        if task.limits.passed_by(self.cost()).is_some() {
-            return Err(Error::Memory);
-        }
-        self.renew_memos();
-        self.renew_state(task.prog.parts.slots)
     }
 
     /// Nothing is noted of the run.

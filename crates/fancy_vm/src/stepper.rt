@@ -118,8 +118,7 @@ impl<'a> Stepper<'a> {
         self.steps
     }
 
-    /// Executes the next instruction, or all those of starts that are passed over together. The stepper comes back where
-    /// the run goes on.
+    /// Executes the next instruction. The stepper comes back where the run goes on.
     ///
     /// A `RuntimeError` tells which limit the run exceeded, and `Memory` that an allocation failed. Either
     /// ends the stepper.
@@ -137,21 +136,16 @@ impl<'a> Stepper<'a> {
             return Err(Error::RuntimeError(RuntimeError::StepLimitExceeded));
         }
         let prog = machine.task.prog;
-        let passed = match machine.step(&prog.body, &mut memos)? {
-            Next::On => 0,
-            Next::Passed => machine.passed,
+        match machine.step(&prog.body, &mut memos)? {
+            Next::On => Ok(Progress::GoesOn(Stepper {
+                machine,
+                memos,
+                steps: steps + 1,
+            })),
             Next::Fails => unreachable!(),
-            Next::Matches => return Ok(Progress::Ends(ending_of(&machine, true)?)),
-            Next::Ends => return Ok(Progress::Ends(ending_of(&machine, false)?)),
-        };
-        if passed >= left {
-            return Err(Error::RuntimeError(RuntimeError::StepLimitExceeded));
+            Next::Matches => Ok(Progress::Ends(ending_of(&machine, true)?)),
+            Next::Ends => Ok(Progress::Ends(ending_of(&machine, false)?)),
         }
-        Ok(Progress::GoesOn(Stepper {
-            machine,
-            memos,
-            steps: steps + passed + 1,
-        }))
     }
 }
 

@@ -1,7 +1,7 @@
 //! Instructions, programs, states and runs under the names of fancy-regex.
 
 pub use crate::runs::{
-    Scratch, attempt_into, begin_attempts, run, run_default, run_into, run_spans,
+    Scratch, attempt_into, begin_attempts, pair_of, run, run_default, run_into, run_spans,
 };
 pub use crate::stepper::{Progress, Stepper};
 pub use fancy_fragments::delegate::{CaptureGroupRange, Delegate};

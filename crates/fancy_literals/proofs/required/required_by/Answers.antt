@@ -1,4 +1,4 @@
-use Rattle.std.proofs.Common.{◌≡◌, IfSome, string_bytes, sym, ap, subst}
+use Rattle.std.proofs.Common.{IfSome, string_bytes, sym, ap, subst}
 use Rattle.fancy_expr.specs.Views.{tree_of}
 use Rattle.fancy_literals.specs.Required.{IsRequiredOf, OneOf, Piece}
 use Rattle.fancy_literals.specs.Takes.{Takes}

@@ -28,3 +28,6 @@ returns-in-len1-up t c = λ unicode.
     sym c.as_slice.ensures.value ∙ item_next c.as_slice.result.now 0 first (omega (arith, some)) c.first-item.is ∙ ap (λ l. first ∷ drop 1 l) c.as_slice.ensures.value in
     subst (IsGuarded unicode found) (ap (λ l. Concat (trees (map tree_of l))) (sym whole) ∙ sym (ap tree_of c.in-Concat.is ∙ tree-concat c.in-Concat.parts))
     (guarded_first unicode found (tree_of first) (c.guard_of.ensures unicode) (trees (map tree_of (drop 1 items))))
+
+pub returns-in-Assertion : goal.returns-in-Assertion
+returns-in-Assertion t c = λ unicode. subst (IsGuarded unicode c.guard_by.result) (sym (ap tree_of c.in-Assertion.is)) (c.guard_by.ensures unicode)

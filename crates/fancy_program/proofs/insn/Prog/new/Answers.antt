@@ -5,8 +5,6 @@ use Rattle.fancy_program.proofs.insn.Prog.new.Goals as goal
 pub invariant_of-result : goal.invariant_of-result
 invariant_of-result c = record {
   fits = c.requires;
-  begins = rw c.deref-insns.ensures.value at c.of-prefilter.ensures;
-  looks = rw c.deref-insns.ensures.value at c.look_prefilter_of-look_prefilter.ensures;
   decides = rw c.deref-insns.ensures.value at c.of-strategy.ensures;
 }
 

@@ -17,5 +17,6 @@ returns-then-has_none-clause-promise c i from =
 pub returns-then-has_none-clause-limits : goal.returns-then-has_none-clause-limits
 returns-then-has_none-clause-limits c = c.limit.ensures.limits ∙ c.limits.ensures
 
-pub returns-in-None-clause-limits : goal.returns-in-None-clause-limits
-returns-in-None-clause-limits c = c.find_in_second_gear-in-None.ensures.limits ∙ c.find_in_first_gear.ensures.limits
+pub returns-in-Ok-clause-promise : goal.returns-in-Ok-clause-promise
+returns-in-Ok-clause-promise c i from =
+    found_promises i c.args.self.now c.args.text.now c.args.options.now from c.requires.fits c.in-Ok.found (c.in-Ok.ensures.answers i from)

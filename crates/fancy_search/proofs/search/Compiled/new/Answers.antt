@@ -24,9 +24,9 @@ pub returns-clause-made : goal.returns-clause-made
 returns-clause-made c =
     let may = may_compile c.args.tree.now c.args.context c.args.options c.requires.well_formed c.requires.fits c.in_ok-info.info c.in_ok-info.ensures in
     compiled_from c.args.tree.now c.args.context c.args.options c.requires.well_formed c.requires.fits c.in_ok-info.info c.in_ok-prog.prog
-    c.min_size-min_size.result c.in_ok-common.common c.in_ok-needed.needed c.in_ok-starts.starts c.if-is_some.skips_starts
+    c.min_size-min_size.result c.in_ok-common.common c.in_ok-needed.needed c.in_ok-candidates.candidates
     c.min_size-min_size.ensures c.in_ok-info.ensures (c.in_ok-prog.ensures _ may) c.in_ok-common.ensures c.in_ok-needed.ensures
-    (c.in_ok-starts.ensures c.args.context)
+    (c.in_ok-candidates.ensures c.args.context)
 
 pub returns-clause-within : goal.returns-clause-within
 returns-clause-within c =

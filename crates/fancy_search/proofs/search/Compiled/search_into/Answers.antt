@@ -14,6 +14,3 @@ returns-then-has_none-clause-promise c i from =
 
 pub returns-then-has_none-clause-limits : goal.returns-then-has_none-clause-limits
 returns-then-has_none-clause-limits c = c.limit.ensures.limits ∙ c.limits.ensures
-
-pub returns-in-None-clause-limits : goal.returns-in-None-clause-limits
-returns-in-None-clause-limits c = c.search_in_second_gear-in-None.ensures.limits ∙ c.search_in_first_gear.ensures.limits

@@ -13,28 +13,19 @@ use Rattle.fancy_vm.specs.Means.{IsMeaning, numbers_of}
 use Rattle.fancy_vm.specs.Scratches.{limits_of, passed_of}
 use Rattle.fancy_search.specs.Candidates.{IsPassed}
 use Rattle.fancy_search.specs.Searches.{BeginsAt, IsCompiledFrom}
-use Rattle.fancy_search.proofs.CandidateLaws.{attempt_fits, begins_at_place, found_alone, none_alone, none_answered, passed_one, passed_to, same_from}
+use Rattle.fancy_search.proofs.CandidateLaws.{attempt_fits, found_alone, none_alone, none_answered, passed_all, passed_one, passed_to}
 use Rattle.fancy_search.proofs.Searched.{accepted}
-use Rattle.fancy_search.proofs.search.Compiled.try_candidates.Goals.{else-is_place, then-is_place+else-is_dense+in-Ok-false}
+use Rattle.fancy_search.proofs.search.Compiled.try_candidates.Goals.{else-is_place, then-is_place+in-Ok-false}
 use Rattle.fancy_search.proofs.search.Compiled.try_candidates.Goals as goal
 
 pub returns-in_default-clause-told : goal.returns-in_default-clause-told
 returns-in_default-clause-told c i from =
-    let starts = c.args.starts.now in
-    let begins : BeginsAt i starts = subst (λ s. IfSome s (BeginsAt i)) c.requires.starts from.starts in
-    none_answered i starts begins c.args.text.now (options_of c.args.options.now) c.requires.any_start c.candidates.from
-    (c.candidates.invariant.4 i from) c.in_default.ensures
-
-pub returns-then-is_dense-clause-told : goal.returns-then-is_dense-clause-told
-returns-then-is_dense-clause-told c i from =
-    let starts = c.args.starts.now in
-    let begins : BeginsAt i starts = subst (λ s. IfSome s (BeginsAt i)) c.requires.starts from.starts in
+    let it = c.args.candidates.now in
+    let begins : BeginsAt i it = subst (λ s. IfSome s (BeginsAt i)) c.requires.candidates from.candidates in
+    let text = c.args.text.now in
     let o = options_of c.args.options.now in
-    let at = c.in-Some.at in
-    let low = c.in-Some.ensures.low in
-    let first = c.candidates.invariant.3 in
-    same_from i starts begins c.args.text.now o c.requires.any_start at (omega (arith, low, first))
-    (passed_to i starts begins c.args.text.now o c.requires.any_start c.candidates.from at (c.candidates.invariant.4 i from) c.in-Some.ensures.before)
+    none_answered i it begins text o c.requires.any_start
+    (passed_all i text (λ k. let fits = c.type_inv.text k in omega (arith, fits)) o c.candidates.from (c.candidates.invariant.4 i from) it begins.all c.in_default.ensures.next)
 
 pub attempt_into-requires-clause-fits : goal.attempt_into-requires-clause-fits
 attempt_into-requires-clause-fits c =
@@ -49,8 +40,8 @@ pub returns-in-Ok-true-clause-told : goal.returns-in-Ok-true-clause-told
 returns-in-Ok-true-clause-told c i from =
     let self = c.args.self.now in
     let text = c.args.text.now in
-    let starts = c.args.starts.now in
-    let begins : BeginsAt i starts = subst (λ s. IfSome s (BeginsAt i)) c.requires.starts from.starts in
+    let it = c.args.candidates.now in
+    let begins : BeginsAt i it = subst (λ s. IfSome s (BeginsAt i)) c.requires.candidates from.candidates in
     let o = options_of c.args.options.now in
     let at = c.in-Some.at in
     let low = c.in-Some.ensures.low in
@@ -60,32 +51,28 @@ returns-in-Ok-true-clause-told c i from =
     subst
     (λ b. IfOk (answer_in (Ok b) c.attempt_into.new.numbers) (λ found. IsMeaning (prog_of self.prog) text (options_of c.attempt_at-here.result) (numbers_of found)))
     c.in-Ok-true.field-0-test c.in-Ok-true.ensures.headline in
-    found_alone i starts begins text o c.requires.any_start at c.candidates.left.backtracks c.candidates.left.steps numbers (omega (arith, low, first))
+    found_alone i it begins text o c.requires.any_start at c.candidates.left.backtracks c.candidates.left.steps numbers (omega (arith, low, first))
     (subst (λ l. is_place l at ≡ true) c.as_bytes.ensures.value (sym c.if-is_place.ensures))
-    (passed_to i starts begins text o c.requires.any_start c.candidates.from at (c.candidates.invariant.4 i from) c.in-Some.ensures.before)
+    (passed_to i text (λ k. let fits = c.type_inv.text k in omega (arith, fits)) o c.candidates.from (c.candidates.invariant.4 i from) it begins.all at c.in-Some.ensures.high c.in-Some.ensures.next)
     (subst (λ x. Some numbers ≡ answer (search_of (plan i) text x)) c.attempt_at-here.ensures
     (means.answers i (accepted i self text c.args.options.now from c.requires.fits) from.program))
-
-pub returns-in-Err-clause-on : goal.returns-in-Err-clause-on
-returns-in-Err-clause-on c =
-    (omega arith, begins_at_place (task_of c.args.self.now.prog c.args.text.now c.args.options.now) c.requires.fits)
 
 pub candidates-preserved : goal.candidates-preserved
 candidates-preserved c =
     let self = c.args.self.now in
     let text = c.args.text.now in
-    let starts = c.args.starts.now in
+    let it = c.args.candidates.now in
     let o = options_of c.args.options.now in
     let at = c.in-Some.at in
     let low = c.in-Some.ensures.low in
     let first = c.candidates.invariant.3 in
     let here : o.pos ≤ at = omega (arith, low, first) in
-    let begins_at : (i : Input) → IsCompiledFrom i self → BeginsAt i starts =
-    λ i from. subst (λ s. IfSome s (BeginsAt i)) c.requires.starts from.starts in
+    let begins_at : (i : Input) → IsCompiledFrom i self → BeginsAt i it =
+    λ i from. subst (λ s. IfSome s (BeginsAt i)) c.requires.candidates from.candidates in
     let passed : (i : Input) → IsCompiledFrom i self → IsPassed i text o at =
-    λ i from. passed_to i starts (begins_at i from) text o c.requires.any_start c.candidates.from at (c.candidates.invariant.4 i from) c.in-Some.ensures.before in
+    λ i from. passed_to i text (λ k. let fits = c.type_inv.text k in omega (arith, fits)) o c.candidates.from (c.candidates.invariant.4 i from) it (begins_at i from).all at c.in-Some.ensures.high c.in-Some.ensures.next in
     elim c.if-is_place.branch [
-      | then-is_place+else-is_dense+in-Ok-false w ↦
+      | then-is_place+in-Ok-false w ↦
           let means : IsMeaning (prog_of self.prog) text (options_of w.attempt_at-here.result) None =
           subst
           (λ b. IfOk (answer_in (Ok b) w.attempt_into.new.numbers)
@@ -95,8 +82,8 @@ candidates-preserved c =
             ap limits_of w.runs-is ∙ w.in-Ok-false.ensures.limits ∙ c.candidates.invariant.1,
             ap passed_of w.runs-is ∙ w.in-Ok-false.ensures.stays,
             omega (arith, here),
-            λ i from. passed_one i starts (begins_at i from) text o c.requires.any_start at (passed i from)
-                (λ place. none_alone i starts (begins_at i from) text o c.requires.any_start at c.candidates.left.backtracks c.candidates.left.steps here place
+            λ i from. passed_one i it (begins_at i from) text o c.requires.any_start at (passed i from)
+                (λ place. none_alone i it (begins_at i from) text o c.requires.any_start at c.candidates.left.backtracks c.candidates.left.steps here place
                 (subst (λ x. None ≡ answer (search_of (plan i) text x)) w.attempt_at-here.ensures
                 (means.answers i (accepted i self text c.args.options.now from c.requires.fits) from.program))),
           )
@@ -105,7 +92,7 @@ candidates-preserved c =
         ap limits_of w.runs-is ∙ c.candidates.invariant.1,
         ap passed_of w.runs-is ∙ c.candidates.invariant.2,
         omega (arith, here),
-        λ i from. passed_one i starts (begins_at i from) text o c.requires.any_start at (passed i from)
+        λ i from. passed_one i it (begins_at i from) text o c.requires.any_start at (passed i from)
             (λ place. absurd (false≢true (w.if-is_place.ensures ∙ subst (λ l. is_place l at ≡ true) (sym c.as_bytes.ensures.value) place))),
       )
     ]

@@ -1,4 +1,4 @@
-use Rattle.std.proofs.Common.{◌≡◌, ◌≤◌, ◌-◌, None, length}
+use Rattle.std.proofs.Common.{◌≡◌, ◌≤◌, ◌-◌, suc, None, length}
 use Rattle.fancy_meaning.specs.Premises.{Input}
 use Rattle.fancy_steps.specs.Tasks.{options_of}
 use Rattle.fancy_vm.specs.Attempts.{MayAttempt}
@@ -13,4 +13,4 @@ invariant-candidates l =
     × ((i : Input) → IsCompiledFrom i l.fn.self → IsPassed i l.fn.text (options_of l.fn.options) l.from)
 
 abbrev pub decreases-candidates : goal.decreases-candidates
-decreases-candidates l = length l.text - l.from
+decreases-candidates l = suc (length l.text) - l.from

@@ -10,7 +10,8 @@ returns-in-Fails-clause-leads c =
     let t = plain_task c.args.self.now.task in
     let f = c.args.delegate.now.fragment in
     let ix = c.args.self.now.ix in
-    let none = subst (IsOnePassOf t.text f ix) c.in-Fails.is c.in_ok-end.ensures.way in
+    let way = rw c.fragment-2.ensures at c.in_ok-end.ensures.way in
+    let none = subst (IsOnePassOf t.text f ix) c.in-Fails.is way in
     subst (λ to. StepAnswers to c.fail-in-Fails.result c.fail-in-Fails.new.self)
     (sym (takes_none t (config_of c.args.self.now) (first_way t (fragment_of f) ix) (none t.pos t.continued))) c.fail-in-Fails.ensures.leads
 

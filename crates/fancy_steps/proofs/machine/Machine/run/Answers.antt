@@ -8,7 +8,6 @@ use Rattle.fancy_steps.specs.Memos.{AreMemosOf}
 use Rattle.fancy_steps.specs.Outcomes.{StepAnswers, config_of, ending, plain_task, RunEnds}
 use Rattle.fancy_steps.specs.declared.machine.Task.{Task}
 use Rattle.fancy_program.proofs.PlacesLaws.{GoesToPlaces, IsAtPlaces, step_at_leads}
-use Rattle.fancy_program.proofs.StartsLaws.{all_at_places, runs_past}
 use Rattle.fancy_steps.proofs.StepLaws.{exec_step, next_of, runs_on, runs_out, stop_finds}
 use Rattle.fancy_steps.proofs.machine.Machine.run.Goals as goal
 
@@ -30,50 +29,8 @@ pub step-requires-clause-place : goal.step-requires-clause-place
 step-requires-clause-place c =
     subst (λ (t : Task). IsTrue (is_place (t.text).now c.steps.self.ix)) (sym c.steps.invariant.task) c.steps.invariant.places.here
 
--- a step that passed over starts, or rounds of a loop, whatever the machine's task is written as
-passed_leads : (after now task : Task) (here : Config) (passed : ℕ) (new : Config) → after ≡ now → now ≡ task →
-    machine.after_steps (plain_task after) passed (next_of (plain_task now) here) ≡ Goes new →
-    machine.after_steps (plain_task task) passed (next_of (plain_task task) here) ≡ Goes new
-passed_leads after now task here passed new stays same leads =
-    subst (λ (u : Task). machine.after_steps (plain_task u) passed (next_of (plain_task u) here) ≡ Goes new) same
-    (subst (λ (u : Task). machine.after_steps (plain_task u) passed (next_of (plain_task now) here) ≡ Goes new) stays leads)
-
-module _ (task : Task) (here new : Config) (passed : ℕ) (leads : machine.after_steps (plain_task task) passed (next_of (plain_task task) here) ≡ Goes new)
-  where
-    passed_places : IsUtf8 (task.text).now → IsAtPlaces (task.text).now here → IsAtPlaces (task.text).now new
-    passed_places utf8 at =
-        let t = plain_task task in
-        let body = ((task.prog).now).body.items in
-        subst (GoesToPlaces (task.text).now) leads
-        (all_at_places t body utf8 refl passed (next_of t here) (step_at_leads t utf8 body here.pc here at))
-
-    -- the run from there
-    passed_same : (left rest : ℕ) → 0 < left → rest ≡ left - 1 - passed → machine.exec (plain_task task) left here ≡ machine.run (plain_task task) →
-        machine.exec (plain_task task) rest new ≡ machine.run (plain_task task)
-    passed_same left rest some all same =
-        let t = plain_task task in
-        ap (λ n. machine.exec t n new) all
-        ∙ sym (runs_past t passed (left - 1) (next_of t here) new leads)
-        ∙ sym (exec_step t here left (next_of t here) some refl) ∙ same
-
 pub steps-preserved : goal.steps-preserved
 steps-preserved c =
-    let task = c.args.self.now.task in
-    let here = config_of c.steps.self in
-    let new = config_of c.step.new.self in
-    let passed = c.step.new.self.passed in
-    let left : ℕ = c.steps.left in
-    let leads = passed_leads c.step.new.self.task c.steps.self.task task here passed new c.in_ok-step.ensures.task c.steps.invariant.task
-    (rw c.in-Passed.is at c.in_ok-step.ensures.leads) in
-    record {
-      task = c.in_ok-step.ensures.task ∙ c.steps.invariant.task;
-      memos = subst (λ (u : Task). AreMemosOf u c.step.new.memos) c.steps.invariant.task c.in_ok-step.ensures.memos;
-      places = passed_places task here new passed leads c.requires.text c.steps.invariant.places;
-      same = passed_same task here new passed leads left c.saturating_sub-left.result c.steps-test.true c.saturating_sub-left.ensures c.steps.invariant.same;
-    }
-
-pub steps-preserved-in-On : goal.steps-preserved-in-On
-steps-preserved-in-On c =
     let task = c.args.self.now.task in
     let now = config_of c.steps.self in
     let new = config_of c.step.new.self in

@@ -9,9 +9,8 @@ use Rattle.fancy_steps.specs.Stops.{error_of}
 use Rattle.fancy_vm.specs.Steppers.{StepperView, view_of, task_in}
 use Rattle.fancy_vm.specs.StepperSteps.{IsFurther}
 use Rattle.fancy_steps.specs.declared.machine.Task.{Task}
-use Rattle.fancy_vm.proofs.SteppersLaws.{Counts, ends_so, goes_by, past_limit, stands_at, stops_so, steps_by}
+use Rattle.fancy_vm.proofs.SteppersLaws.{ends_so, stands_at, stops_so, steps_by}
 use Rattle.fancy_vm.proofs.stepper.Stepper.step.Goals as goal
-use Rattle.fancy_vm.proofs.stepper.Stepper.step.Goals.{in-On, in-Passed}
 
 pub step-requires-clause-place : goal.step-requires-clause-place
 step-requires-clause-place c =
@@ -39,8 +38,8 @@ returns-in-Matches c =
     subst (λ (w : StepperView). RunAnswers (machine.run (task_in w)) (Ok c.in_ok-ending_of-in-Matches.field-0)) c.self.view_is
     (subst (λ (o : Outcome). RunAnswers o (Ok c.in_ok-ending_of-in-Matches.field-0)) (sym same) c.in_ok-ending_of-in-Matches.ensures)
 
-pub returns-in-Ends : goal.returns-in-Ends
-returns-in-Ends c =
+pub returns : goal.returns
+returns c =
     let m = c.self.inside.machine in
     let t = plain_task m.task in
     let some : 0 < t.step_limit - c.self.inside.steps = omega (arith, c.if-left-eq0.false) in
@@ -49,52 +48,26 @@ returns-in-Ends c =
     subst (λ (w : StepperView). RunAnswers (machine.run (task_in w)) (Ok c.in_ok-ending_of-in-Ends.field-0)) c.self.view_is
     (subst (λ (o : Outcome). RunAnswers o (Ok c.in_ok-ending_of-in-Ends.field-0)) (sym same) c.in_ok-ending_of-in-Ends.ensures)
 
-pub returns-then-passed-left : goal.returns-then-passed-left
-returns-then-passed-left c =
-    let m = c.self.inside.machine in
-    let new = c.step.new.self in
-    let n : ℕ = c.self.inside.steps in
-    let passed : ℕ = c.match-branch-2.passed in
-    let count : Counts c.in_ok-step.field-0 new passed =
-    elim c.match-branch-2.branch [ in-On w ↦ rw w.in-On.is w.passed-is | in-Passed w ↦ rw w.in-Passed.is w.passed-is ] in
-    let leads = goes_by m new c.in_ok-step.ensures.task c.in_ok-step.field-0 passed count c.in_ok-step.ensures.leads in
-    ap (λ (w : StepperView). machine.run (task_in w)) (sym c.self.view_is)
-    ∙ past_limit (plain_task m.task) n (passed + 1) (config_of m) (config_of new) c.self.invariant.on_run leads
-    (omega (arith, c.if-passed-left.true, c.self.invariant.on_run.allowed))
-
-pub overflow_add-result : goal.overflow_add-result
-overflow_add-result c = omega (arith, c.if-passed-left.false, c.self.invariant.on_run.allowed)
-
-pub overflow_add-result-2 : goal.overflow_add-result-2
-overflow_add-result-2 c = omega (arith, c.if-passed-left.false, c.self.invariant.on_run.allowed)
-
 pub invariant_of-result : goal.invariant_of-result
 invariant_of-result c =
     let m = c.self.inside.machine in
     let new = c.step.new.self in
     let n : ℕ = c.self.inside.steps in
-    let passed : ℕ = c.match-branch-2.passed in
     let stepper = c.self.invariant in
     let same = sym c.in_ok-step.ensures.task in
-    let count : Counts c.in_ok-step.field-0 new passed =
-    elim c.match-branch-2.branch [ in-On w ↦ rw w.in-On.is w.passed-is | in-Passed w ↦ rw w.in-Passed.is w.passed-is ] in
-    let leads = goes_by m new c.in_ok-step.ensures.task c.in_ok-step.field-0 passed count c.in_ok-step.ensures.leads in
+    let some : 0 < (plain_task m.task).step_limit - n = omega (arith, c.if-left-eq0.false) in
     record {
       text = subst (λ (t : Task). IsUtf8 (t.text).now) same stepper.text;
       fits = subst (λ (t : Task). IsTrue (run_fits (plain_task t))) same stepper.fits;
       are_memos = subst (λ (t : Task). AreMemosOf t c.step.new.memos) same c.in_ok-step.ensures.memos;
-      on_run = (steps_by m new c.in_ok-step.ensures.task n passed leads stepper.on_run (omega (arith, c.if-passed-left.false, stepper.on_run.allowed))).on_run;
+      on_run = (steps_by m new c.in_ok-step.ensures.task n (rw c.in-On.is at c.in_ok-step.ensures.leads) stepper.on_run some).on_run;
     }
 
-pub returns : goal.returns
-returns c =
+pub returns-in-On : goal.returns-in-On
+returns-in-On c =
     let m = c.self.inside.machine in
     let new = c.step.new.self in
     let n : ℕ = c.self.inside.steps in
-    let passed : ℕ = c.match-branch-2.passed in
-    let on = c.self.invariant.on_run in
-    let count : Counts c.in_ok-step.field-0 new passed =
-    elim c.match-branch-2.branch [ in-On w ↦ rw w.in-On.is w.passed-is | in-Passed w ↦ rw w.in-Passed.is w.passed-is ] in
-    let leads = goes_by m new c.in_ok-step.ensures.task c.in_ok-step.field-0 passed count c.in_ok-step.ensures.leads in
-    subst (λ (w : StepperView). IsFurther w (view_of new (n + passed + 1))) c.self.view_is
-    (steps_by m new c.in_ok-step.ensures.task n passed leads on (omega (arith, c.if-passed-left.false, on.allowed)))
+    let some : 0 < (plain_task m.task).step_limit - n = omega (arith, c.if-left-eq0.false) in
+    subst (λ (w : StepperView). IsFurther w (view_of new (n + 1))) c.self.view_is
+    (steps_by m new c.in_ok-step.ensures.task n (rw c.in-On.is at c.in_ok-step.ensures.leads) c.self.invariant.on_run some)
