@@ -2,6 +2,7 @@
 use Rattle.std.specs.Prelude.{ℕ, List, codes, Option, Some, None, Result, Ok, Err}
 use Rattle.fancy_expr.specs.declared.error.Error as engine
 use Rattle.fancy_expr.specs.declared.error.Error.TheVariants as of_engine
+use Rattle.fancy_expr.specs.Errors.{limit_text, refusal_text}
 use Rattle.fancy_steps.specs.declared.search_limits.SearchLimit.{SearchLimit}
 use Rattle.fancy_steps.specs.declared.search_limits.SearchLimit.TheVariants as limit
 use Rattle.fancy_pattern.specs.Messages as pattern
@@ -53,13 +54,13 @@ abbrev pub limit_of_item : {A : Type 0} → Option (Result A Error) → Option S
 limit_of_item None = None
 limit_of_item (Some reply) = limit_in reply
 
--- what is said of an error; of a refused tree and of a limit of a run the engine's text is, which no definition says
-abbrev pub error_text : Error → Option (List ℕ)
-error_text (face.ParseError at kind) = Some (pattern.error_text (of_parser.Parse at kind))
-error_text (face.CompileError e) = None
-error_text (face.RuntimeError e) = None
-error_text face.NestLimitExceeded = Some (codes "the pattern nests deeper than the limit")
-error_text face.AnalysisLimitExceeded = Some (codes "the analysis of the pattern exceeds its limit")
-error_text face.VisitLimitExceeded = Some (codes "too many states were visited")
-error_text face.MemoryLimitExceeded = Some (codes "too much memory was held")
-error_text face.Memory = Some (codes "out of memory")
+-- what is said of an error
+abbrev pub error_text : Error → List ℕ
+error_text (face.ParseError at kind) = pattern.error_text (of_parser.Parse at kind)
+error_text (face.CompileError e) = refusal_text e
+error_text (face.RuntimeError e) = limit_text e
+error_text face.NestLimitExceeded = codes "the pattern nests deeper than the limit"
+error_text face.AnalysisLimitExceeded = codes "the analysis of the pattern exceeds its limit"
+error_text face.VisitLimitExceeded = codes "too many states were visited"
+error_text face.MemoryLimitExceeded = codes "too much memory was held"
+error_text face.Memory = codes "out of memory"

@@ -107,9 +107,10 @@ impl From<PatternError> for Error {
 }
 
 impl fmt::Display for Error {
+    ghost use Rattle.std.specs.Prelude.{Some};
     ghost use Rattle.fancy_regex.specs.Errors.{error_text};
 
-    ghost output = { error_text };
+    ghost output = { λ e. Some (error_text e) };
 
     fn fmt<W: fmt::Write>(&self, f: &mut fmt::Formatter<W>) -> fmt::Result {
         match self {
