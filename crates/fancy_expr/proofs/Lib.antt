@@ -6,6 +6,7 @@ pub mod Groups
 pub mod Listed
 pub mod Referred
 pub mod Numbered
+pub mod AskedNodes
 pub mod Starts
 pub mod NodeParts
 pub mod Texts

@@ -5,6 +5,8 @@ use Rattle.fancy_meaning.specs.Tree as plain
 use Rattle.fancy_meaning.specs.Tree.{Tree}
 use Rattle.fancy_meaning.specs.WellFormed.{refers, is_call, is_any_call}
 use Rattle.fancy_meaning.specs.AnalysisRefusals.{is_lazy}
+use Rattle.fancy_meaning.specs.Marks.{is_continue}
+use Rattle.fancy_meaning.specs.Nodes.{is_keep_out}
 use Rattle.fancy_expr.specs.declared.expr.Expr.{Expr}
 use Rattle.fancy_expr.specs.declared.nodes.Question.{Question}
 use Rattle.fancy_expr.specs.declared.nodes.Question.TheVariants as question
@@ -25,6 +27,8 @@ is_refused first last e = false
 abbrev pub asks : Question → Expr → Bool
 asks question.IsCall e = is_call (tree_of e)
 asks question.IsLazy e = is_lazy (tree_of e)
+asks question.IsContinue e = is_continue (tree_of e)
+asks question.IsKeepOut e = is_keep_out (tree_of e)
 asks question.IsAnyCall e = is_any_call (tree_of e)
 asks (question.Refers g) e = refers g (tree_of e)
 asks (question.IsUnlisted listed groups) e = is_unlisted listed.now.keys groups (tree_of e)

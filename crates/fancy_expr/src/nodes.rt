@@ -5,6 +5,8 @@ ghost use Rattle.std.specs.List.{list_any};
 ghost use Rattle.fancy_meaning.specs.Tree as plain;
 ghost use Rattle.fancy_meaning.specs.WellFormed.{refers, is_call, is_any_call};
 ghost use Rattle.fancy_meaning.specs.AnalysisRefusals.{is_lazy};
+ghost use Rattle.fancy_meaning.specs.Marks.{is_continue};
+ghost use Rattle.fancy_meaning.specs.Nodes.{is_keep_out};
 ghost use Rattle.fancy_expr.specs.Views.{tree_of, unresolved_of};
 ghost use Rattle.fancy_expr.specs.Exprs.{exprs, first_with};
 ghost use Rattle.fancy_expr.specs.Questions.{asks, is_unlisted, is_refused};
@@ -19,6 +21,10 @@ pub enum Question<'a> {
     IsCall,
     /// A loop that stops first.
     IsLazy,
+    /// A `\G`.
+    IsContinue,
+    /// A `\K`.
+    IsKeepOut,
     /// A call, or a node that stands for one.
     IsAnyCall,
     /// It refers back to this group, or asks for it.
@@ -41,6 +47,8 @@ fn asks(question: Question, expr: &Expr) -> bool
     match question {
         Question::IsCall => is_call(expr),
         Question::IsLazy => is_lazy(expr),
+        Question::IsContinue => is_continue(expr),
+        Question::IsKeepOut => is_keep_out(expr),
         Question::IsAnyCall => is_any_call(expr),
         Question::Refers(group) => refers(expr, group),
         Question::IsUnlisted { listed, groups } => is_unlisted(expr, listed, groups),
@@ -63,6 +71,26 @@ fn is_lazy(expr: &Expr) -> bool
 {
     match expr {
         Expr::Repeat { greedy, .. } => !*greedy,
+        Expr::Absent(_) => false,
+        _ => false,
+    }
+}
+
+fn is_continue(expr: &Expr) -> bool
+    ensures { result ≡ is_continue (tree_of expr.now) }
+{
+    match expr {
+        Expr::ContinueFromPreviousMatchEnd => true,
+        Expr::Absent(_) => false,
+        _ => false,
+    }
+}
+
+fn is_keep_out(expr: &Expr) -> bool
+    ensures { result ≡ is_keep_out (tree_of expr.now) }
+{
+    match expr {
+        Expr::KeepOut => true,
         Expr::Absent(_) => false,
         _ => false,
     }

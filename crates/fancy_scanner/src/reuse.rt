@@ -8,7 +8,7 @@ ghost use Rattle.fancy_scanner.specs.Reuse.{IsReuse, is_anchored};
 ghost use Rattle.fancy_scanner.specs.Reuse as reuse;
 
 use fancy_expr::expr::ExprTree;
-use fancy_search::node_kind::{NodeKind, has_kind};
+use fancy_expr::nodes::{Question, has_node};
 use fancy_search::search::SearchOptions;
 
 /// Which results of a search for a tree hold from later places on too.
@@ -35,10 +35,10 @@ impl Reuse {
         if options.compilation.anchored || options.run.anchored {
             return Reuse::Nothing;
         }
-        if has_kind(NodeKind::Continue, &tree.expr) {
+        if has_node(&tree.expr, Question::IsContinue) {
             return Reuse::Nothing;
         }
-        if has_kind(NodeKind::KeepOut, &tree.expr) {
+        if has_node(&tree.expr, Question::IsKeepOut) {
             return Reuse::NoMatch;
         }
         Reuse::Matches

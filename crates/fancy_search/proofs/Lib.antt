@@ -6,4 +6,3 @@ pub mod Pairs
 pub mod ThreadsLaws
 pub mod CandidateLaws
 pub mod CandidateAnswers
-pub mod NodeKinds

@@ -4,4 +4,3 @@ pub mod Requests
 pub mod Searches
 pub mod Scratches
 pub mod Candidates
-pub mod NodeKinds

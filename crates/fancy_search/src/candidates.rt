@@ -10,11 +10,11 @@ ghost use Rattle.fancy_vm.specs.Scratches as held;
 ghost use Rattle.fancy_search.specs.Candidates.{IsTold, TellsNoLimit};
 ghost use Rattle.fancy_search.specs.Searches.{BeginsAt, IsCompiledFrom, input_of, program};
 
-use crate::node_kind::{NodeKind, has_kind};
 use crate::search::Compiled;
 use fancy_characters::places::is_place;
 use fancy_compile::compile::CompileOptions;
 use fancy_expr::expr::ExprTree;
+use fancy_expr::nodes::{Question, has_node};
 use fancy_literals::starts::{Starts, starts_by};
 use fancy_vm::vm::{RunOptions, Scratch, attempt_into, begin_attempts};
 use std::alloc::{AllocError, Global};
@@ -69,7 +69,7 @@ pub(crate) fn candidates_of(
     ensures { (context : AnalyzeContext) → IfOk result (λ found. IfSome found
         (BeginsAt (input_of tree.now context options))) }
 {
-    if options.anchored || has_kind(NodeKind::Continue, &tree.expr) {
+    if options.anchored || has_node(&tree.expr, Question::IsContinue) {
         return Ok(None);
     }
     let known = starts_by(alloc, &tree.expr, options.unicode)?;

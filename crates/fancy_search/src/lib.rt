@@ -5,7 +5,6 @@ mod candidates;
 mod common;
 mod gears;
 mod needed;
-pub mod node_kind;
 pub mod request;
 pub mod scratch;
 pub mod search;

@@ -1,8 +1,7 @@
 use Rattle.std.proofs.Common.{IfSome, subst, sym, ◌∙◌}
 use Rattle.fancy_expr.specs.Views.{tree_of}
+use Rattle.fancy_expr.proofs.AskedNodes.{any-continue}
 use Rattle.fancy_literals.specs.Starts.{AreStartsOf}
-use Rattle.fancy_search.specs.declared.node_kind.NodeKind.TheVariants as kind
-use Rattle.fancy_search.proofs.NodeKinds.{any-numbered}
 use Rattle.fancy_search.proofs.candidates.candidates_of.Goals as goal
 
 pub returns-in-Some : goal.returns-in-Some
@@ -12,12 +11,12 @@ returns-in-Some c context =
     record {
       all = subst (λ o. IfSome o (λ starts. AreStartsOf starts unicode tree)) c.in-Some.is c.in_ok-known.ensures;
       any_start = c.if-options.false;
-      no_continue = any-numbered kind.Continue _ c.args.tree.now.expr ∙ sym c.has_kind.ensures ∙ c.if-has_kind.false;
+      no_continue = any-continue _ c.args.tree.now.expr ∙ sym c.has_node.ensures ∙ c.if-has_node.false;
     }
 
 pub returns : goal.returns
 returns c context = record {
   all = tt;
   any_start = c.if-options.false;
-  no_continue = any-numbered kind.Continue _ c.args.tree.now.expr ∙ sym c.has_kind.ensures ∙ c.if-has_kind.false;
+  no_continue = any-continue _ c.args.tree.now.expr ∙ sym c.has_node.ensures ∙ c.if-has_node.false;
 }
