@@ -1,17 +1,18 @@
 -- The groups with names, token by token, and the bytes of a name, character by character.
-use Rattle.std.proofs.Common.{◌≡◌, ℕ, ◌+◌, ◌<◌, List, [], ◌∷◌, ◌++◌, length, take, map, filter, cond, Bool, true, false, ◌||◌, Some, None, String, Vec, string_bytes, get_or, encode_utf8, encode_utf8_all, refl, sym, ap, ◌∙◌, append-nil, append_assoc}
+use Rattle.std.proofs.Common.{◌≡◌, ℕ, ◌+◌, ◌<◌, List, [], ◌∷◌, ◌++◌, length, take, map, filter, cond, Bool, true, false, ◌||◌, Option, Some, None, is_some, String, Vec, string_bytes, get_or, encode_utf8, encode_utf8_all, refl, sym, ap, ◌∙◌, append-nil, append_assoc}
 use Rattle.std.proofs.lemmas.List.{take_more, map-append}
 use Rattle.std.proofs.lemmas.Str.{encodes-append}
 use Rattle.std.specs.List.{list_any}
 use Rattle.std.proofs.lemmas.Bool.{true≢false}
+use Rattle.std.proofs.lemmas.Option.{none-some, same_Some}
 use Rattle.std.specs.BTreeMap.{BTreeMap, get_by_text}
-use Rattle.std.specs.Option.{option_map_or}
+use Rattle.std.specs.Option.{option_map, option_map_or}
 use Rattle.std.specs.Str.{bytes_eq}
 use Rattle.std.specs.declared.alloc.Global.{Global}
 use Rattle.fancy_tokens.specs.declared.tokens.Placed.{Placed as Code}
 use Rattle.fancy_tokens.specs.Tokens.{Opening, Around, Group, AbsentBar, If, IfPattern, IfLook, Token, Node, Refer, FlagsItem, Open, Bar, Close, Quantified, ClassOpen, ClassText, ClassClose, Broken, Placed}
 use Rattle.fancy_pattern.specs.Spelling.{has_name, opens_named}
-use Rattle.fancy_pattern.specs.Naming.{named_opening, named_of, named_in, numbers_of, numbers_in}
+use Rattle.fancy_pattern.specs.Naming.{named_opening, named_of, named_in, if_any, numbers_of, numbers_in}
 use Rattle.fancy_tokens.specs.PatternViews.{placed_of}
 
 -- one more character
@@ -88,13 +89,47 @@ numbers_by_text (p ∷ ps) name =
       | false ↦ numbers_by_text ps name
     ]
 
+-- a name with a number has numbers
+some_numbers : (pairs : List (String Global × ℕ)) (name : List ℕ) → list_any (λ p. bytes_eq name (string_bytes p.0)) pairs ≡ true →
+    Some (numbers_of (map (λ p. (string_bytes p.0, p.1)) pairs) name) ≡ if_any (numbers_of (map (λ p. (string_bytes p.0, p.1)) pairs) name)
+some_numbers [] name = λ some. absurd (true≢false (sym some))
+some_numbers (p ∷ ps) name =
+    elim (bytes_eq name (string_bytes p.0)) as (λ b.
+    (b || list_any (λ (q : String Global × ℕ). bytes_eq name (string_bytes q.0)) ps) ≡ true →
+    Some (map (λ (q : List ℕ × ℕ). q.1)
+    (cond b ((string_bytes p.0, p.1) ∷ filter (λ q. bytes_eq name q.0) (map (λ q. (string_bytes q.0, q.1)) ps))
+    (filter (λ q. bytes_eq name q.0) (map (λ q. (string_bytes q.0, q.1)) ps))))
+    ≡ if_any (map (λ (q : List ℕ × ℕ). q.1)
+    (cond b ((string_bytes p.0, p.1) ∷ filter (λ q. bytes_eq name q.0) (map (λ q. (string_bytes q.0, q.1)) ps))
+    (filter (λ q. bytes_eq name q.0) (map (λ q. (string_bytes q.0, q.1)) ps))))) [
+      | true ↦ λ some. refl
+      | false ↦ some_numbers ps name
+    ]
+
+-- an entry that is there where a name has a number, and has its numbers
+pub numbers_in_entry : (o : Option (Vec ℕ Global)) (pairs : List (String Global × ℕ)) (name : List ℕ) →
+    option_map_or (λ g. g.items) o [] ≡ map (λ p. p.1) (filter (λ p. bytes_eq name (string_bytes p.0)) pairs) →
+    is_some o ≡ list_any (λ p. bytes_eq name (string_bytes p.0)) pairs →
+    option_map (λ g. g.items) o ≡ if_any (numbers_of (map (λ p. (string_bytes p.0, p.1)) pairs) name)
+numbers_in_entry None pairs name are there = ap if_any (are ∙ numbers_by_text pairs name)
+numbers_in_entry (Some v) pairs name are there =
+    ap Some (are ∙ numbers_by_text pairs name) ∙ some_numbers pairs name (sym there)
+
 -- what a look-up finds
 pub found_numbers : (m : BTreeMap (String Global) (Vec ℕ Global)) (q name items want : List ℕ) (v : Vec ℕ Global) → get_by_text m q ≡ Some v → q ≡ name →
-    items ≡ v.items → numbers_in m name ≡ want → items ≡ want
+    items ≡ v.items → numbers_in m name ≡ if_any want → items ≡ want
 found_numbers m q name items want v found same are agrees =
-    are ∙ sym (ap (λ o. option_map_or (λ (g : Vec ℕ Global). g.items) o []) found) ∙ ap (numbers_in m) same ∙ agrees
+    are ∙ is_all want (sym (ap (option_map (λ (g : Vec ℕ Global). g.items)) found) ∙ ap (numbers_in m) same ∙ agrees)
+  where
+    is_all : {ns : List ℕ} (want : List ℕ) → Some ns ≡ if_any want → ns ≡ want
+    is_all [] is = absurd (none-some _ (sym is))
+    is_all (n ∷ ns) is = same_Some _ _ is
 
 pub found_none : (m : BTreeMap (String Global) (Vec ℕ Global)) (q name want : List ℕ) → get_by_text m q ≡ None → q ≡ name →
-    numbers_in m name ≡ want → [] ≡ want
+    numbers_in m name ≡ if_any want → [] ≡ want
 found_none m q name want found same agrees =
-    sym (ap (λ o. option_map_or (λ (g : Vec ℕ Global). g.items) o []) found) ∙ ap (numbers_in m) same ∙ agrees
+    is_empty want (sym (ap (option_map (λ (g : Vec ℕ Global). g.items)) found) ∙ ap (numbers_in m) same ∙ agrees)
+  where
+    is_empty : (want : List ℕ) → None ≡ if_any want → [] ≡ want
+    is_empty [] is = refl
+    is_empty (n ∷ ns) is = absurd (none-some _ is)

@@ -10,7 +10,7 @@ use Rattle.fancy_expr.specs.declared.expr.ExprTree.{ExprTree}
 use Rattle.fancy_expr.specs.Views.{tree_of}
 use Rattle.fancy_pattern.specs.declared.survey.Survey.{Survey}
 use Rattle.fancy_tokens.specs.Tokens.{Target, Name, Number, Nowhere, Opening, Group, If, Token, Refer, Open, Placed}
-use Rattle.fancy_pattern.specs.Naming.{named_in, numbers_of, numbers_in}
+use Rattle.fancy_pattern.specs.Naming.{named_in, if_any, numbers_of, numbers_in}
 
 -- ---- what tokens say
 
@@ -65,7 +65,7 @@ pub record IsDescribed (ignored : Bool) (ts : List Placed) (t : ExprTree) : Type
   pub groups : t.total_groups ≡ count_by (λ p. opens_group p.token) ts
   pub backrefs : t.backrefs.keys ≡ up_to t.total_groups [] (references (tree_of t.expr))
   pub out_of_range : t.out_of_range_backref ≡ first_past t.total_groups (references (tree_of t.expr))
-  pub named : (name : List ℕ) → numbers_in t.named_groups name ≡ numbers_of (named_in ts) name
+  pub named : (name : List ℕ) → numbers_in t.named_groups name ≡ if_any (numbers_of (named_in ts) name)
   pub numeric : t.numeric_capture_group_references ≡ list_any (λ p. names_number p.token) ts
   pub plain : t.numbered_groups_ignored ≡ ignored
   pub calls : t.contains_subroutines ≡ list_any is_any_call (nodes (tree_of t.expr))

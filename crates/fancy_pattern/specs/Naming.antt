@@ -1,7 +1,7 @@
 -- The groups with names, and the numbers of each name.
 use Rattle.std.specs.Prelude.{ℕ, List, [], ◌∷◌, ◌++◌, map, filter, encode_utf8_all, string_bytes, String, Vec, Option, Some, None}
 use Rattle.std.specs.BTreeMap.{BTreeMap, get_by_text}
-use Rattle.std.specs.Option.{option_map, option_map_or}
+use Rattle.std.specs.Option.{option_map}
 use Rattle.std.specs.Str.{bytes_eq}
 use Rattle.std.specs.declared.alloc.Global.{Global}
 use Rattle.fancy_tokens.specs.Tokens.{Opening, Group, Token, Open, Placed}
@@ -28,10 +28,16 @@ named_in (p ∷ ps) = named_of p.token ++ named_in ps
 abbrev pub numbers_of : List (List ℕ × ℕ) → List ℕ → List ℕ
 numbers_of pairs name = map (λ p. p.1) (filter (λ p. bytes_eq name p.0) pairs)
 
+-- the numbers, if there is one
+abbrev pub if_any : List ℕ → Option (List ℕ)
+if_any [] = None
+if_any (n ∷ ns) = Some (n ∷ ns)
+
 -- ---- what clauses see of names
 
 abbrev pub pairs_in : Vec (String Global × ℕ) Global → List (List ℕ × ℕ)
 pairs_in pairs = map (λ p. (string_bytes p.0, p.1)) pairs.items
 
-abbrev pub numbers_in : BTreeMap (String Global) (Vec ℕ Global) → List ℕ → List ℕ
-numbers_in m name = option_map_or (λ (groups : Vec ℕ Global). groups.items) (get_by_text m name) []
+-- the numbers of this name, if it is in the map
+abbrev pub numbers_in : BTreeMap (String Global) (Vec ℕ Global) → List ℕ → Option (List ℕ)
+numbers_in m name = option_map (λ (groups : Vec ℕ Global). groups.items) (get_by_text m name)

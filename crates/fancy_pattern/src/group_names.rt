@@ -1,7 +1,7 @@
 //! The names of groups, and the numbers of each.
 
 ghost use Rattle.std.specs.Prelude.{◌≡◌, ℕ, List, map, string_bytes};
-ghost use Rattle.fancy_pattern.specs.Naming.{numbers_of, numbers_in, pairs_in};
+ghost use Rattle.fancy_pattern.specs.Naming.{if_any, numbers_of, numbers_in, pairs_in};
 
 use crate::named::{numbers_of, pairs_of, text_of};
 use fancy_tokens::tokens::Placed;
@@ -13,7 +13,8 @@ use std::collections::BTreeMap;
 pub struct GroupNames {
     pub pairs: Vec<(String, usize)>,
     pub numbers: BTreeMap<String, Vec<usize>>,
-    ghost agrees: { (name : List ℕ) → numbers_in numbers name ≡ numbers_of (pairs_in pairs) name },
+    ghost agrees: { (name : List ℕ) → numbers_in numbers name
+        ≡ if_any (numbers_of (pairs_in pairs) name) },
 }
 
 impl GroupNames {

@@ -4,7 +4,7 @@ ghost use Rattle.std.specs.Prelude.{◌≡◌, ◌++◌, ℕ, List, map, IfOk, O
 ghost use Rattle.std.specs.Option.{option_map};
 ghost use Rattle.std.specs.List.{list_any};
 ghost use Rattle.fancy_pattern.specs.Spelling.{opens_named};
-ghost use Rattle.fancy_pattern.specs.Naming.{numbers_of, numbers_in, pairs_in, named_in, named_of, named_by, named_opening};
+ghost use Rattle.fancy_pattern.specs.Naming.{if_any, numbers_of, numbers_in, pairs_in, named_in, named_of, named_by, named_opening};
 ghost use Rattle.fancy_tokens.specs.PatternViews.{token_of, placed_of, opening_of};
 
 use fancy_tokens::tokens::{Opening, Placed, Token};
@@ -88,7 +88,7 @@ pub(crate) fn numbers_of(
     pairs: &[(String, usize)],
 ) -> Result<BTreeMap<String, Vec<usize>>, AllocError>
     ensures { IfOk result (λ m. (name : List ℕ) → numbers_in m name
-        ≡ numbers_of (map (λ p. (string_bytes p.0, p.1)) pairs.now) name) }
+        ≡ if_any (numbers_of (map (λ p. (string_bytes p.0, p.1)) pairs.now) name)) }
 {
     let mut numbers: BTreeMap<String, Vec<usize>> = BTreeMap::new(alloc);
     for (name, number) in pairs {
