@@ -1,10 +1,10 @@
 -- What the calls of the program need of each other.
-use Rattle.std.proofs.Common.{◌≡◌, ℕ, Bool, true, false, not, ◌&&◌, ◌||◌, List, ◌∷◌, map, string_bytes, Option, Some, None, Result, IsTrue, refl, sym, ap, ◌∙◌, subst, leb-true}
+use Rattle.std.proofs.Common.{◌≡◌, ℕ, Bool, true, false, List, ◌∷◌, map, string_bytes, Option, Some, None, Result, IsTrue, refl, sym, ap, ◌∙◌, subst, leb-true}
 use Rattle.std.specs.Str.{IsCharBoundary}
 use Rattle.std.specs.declared.string.String.{String}
 use Rattle.std.specs.declared.alloc.Global.{Global}
 use Rattle.std.specs.declared.vec.Vec.{Vec}
-use Rattle.std.proofs.lemmas.Bool.{and_parts, and_from}
+use Rattle.std.proofs.lemmas.Bool.{and_parts}
 use Rattle.regex.proofs.Utf8Lemmas.{IsCharBoundary-of_test}
 use Rattle.fancy_meaning.specs.Options as plain
 use Rattle.fancy_meaning.specs.Places.{is_place}
@@ -21,7 +21,7 @@ use Rattle.fancy_command.specs.Arguments as line
 use Rattle.fancy_command.specs.Arguments.{Text, Question, arguments_of, question_of}
 use Rattle.fancy_command.specs.Commands.{AnswersTo, searched, IsRead}
 use Rattle.fancy_search.proofs.Searched.{place_of}
-use Rattle.fancy_search.specs.Searches.{PromisesWithin, input_of, options_fit, search_fits}
+use Rattle.fancy_search.specs.Searches.{PromisesWithin, input_of}
 
 boundary_of : (text : List ℕ) (i : ℕ) → is_place text i ≡ true → IsCharBoundary text i
 boundary_of text i e = let p = and_parts _ _ e in IsCharBoundary-of_test text i (leb-true _ _ p.0) p.1
@@ -49,25 +49,6 @@ asks words tree text rest tree' text' a b split of_tree of_text said at =
     ∙ subst (λ x. line.asks tree' text' a ≡ question_of (x ∷ string_bytes text ∷ map string_bytes rest)) of_tree
     (subst (λ x. line.asks tree' text' a ≡ question_of (tree' ∷ x ∷ map string_bytes rest)) of_text (asks_split tree' text' (map string_bytes rest) a said))
     ∙ subst (λ ws. question_of (string_bytes tree ∷ string_bytes text ∷ map string_bytes rest) ≡ question_of (map string_bytes ws)) (sym split) refl
-
-none_or : (n : Bool) → (not n || n) ≡ true
-none_or true = refl
-none_or false = refl
-
--- what the words ask for fits
-pub options_are_fit : (a : Arguments) (text : Text) (o : SearchOptions) → o.analysis ≡ line.analysis a → o.compilation ≡ line.compilation a →
-    run_options_of o.run ≡ line.running a → is_place text a.pos ≡ true → search_fits o text ≡ true
-options_are_fit a text o as_analysed as_compiled as_run at =
-    let fits : AnalyzeContext → CompileOptions → plain.RunOptions → Bool = λ x c r. options_fit x c && not x.explicit_capture_group_0
-    && is_place text r.pos && (not r.not_empty || x.find_not_empty) && (not r.leftmost_longest || x.leftmost_longest) in
-    ap (λ (x : AnalyzeContext). fits x o.compilation (run_options_of o.run)) as_analysed
-    ∙ ap (λ (x : CompileOptions). fits (line.analysis a) x (run_options_of o.run)) as_compiled
-    ∙ ap (λ (x : plain.RunOptions). fits (line.analysis a) (line.compilation a) x) as_run
-    ∙ and_from (options_fit (line.analysis a) (line.compilation a) && true && is_place text a.pos && (not a.not_empty || a.not_empty))
-    (not a.longest || a.longest)
-    (and_from (options_fit (line.analysis a) (line.compilation a) && true && is_place text a.pos) (not a.not_empty || a.not_empty)
-    (and_from (options_fit (line.analysis a) (line.compilation a) && true) (is_place text a.pos)
-    (and_from (options_fit (line.analysis a) (line.compilation a)) true (none_or a.end_text) refl) at) (none_or a.not_empty)) (none_or a.longest)
 
 -- what the search answers is what the words ask for
 pub answers_by : (q : Question) (t : ExprTree) (o : SearchOptions) (answer : Result (Option (Vec ℕ Global)) Error) → IsRead q.tree t →

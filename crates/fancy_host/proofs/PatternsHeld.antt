@@ -1,6 +1,5 @@
 -- What a scanner holds when a pattern is added to it.
-use Rattle.std.proofs.Common.{◌≡◌, ℕ, Bool, true, false, not, ◌&&◌, ◌||◌, List, [], ◌∷◌, ◌++◌, Option, Some, None, refl, sym, ap, ap₂, ◌∙◌, subst}
-use Rattle.std.proofs.lemmas.Bool.{and_from}
+use Rattle.std.proofs.Common.{◌≡◌, ℕ, true, List, [], ◌∷◌, ◌++◌, Option, Some, None, refl, sym, ap, ap₂, ◌∙◌, subst}
 use Rattle.std.proofs.lemmas.Str.{IsCharBoundary-start, IsUtf8-nil}
 use Rattle.fancy_laws.proofs.Characters.{place_of_cut}
 use Rattle.fancy_meaning.specs.Places.{is_place}
@@ -12,7 +11,8 @@ use Rattle.fancy_info.specs.declared.context.AnalyzeContext.{AnalyzeContext}
 use Rattle.fancy_compile.specs.declared.options.CompileOptions.{CompileOptions}
 use Rattle.fancy_matches.specs.Listing.{begun_at, options_for}
 use Rattle.fancy_search.specs.Requests as requests
-use Rattle.fancy_search.specs.Searches.{input_of, options_fit, search_fits}
+use Rattle.fancy_search.proofs.RequestLaws.{request_fits}
+use Rattle.fancy_search.specs.Searches.{input_of, search_fits}
 use Rattle.fancy_search.specs.declared.search.SearchOptions.{SearchOptions}
 use Rattle.fancy_scanner.specs.Scanning.{IsScannerOf, IsTreeOf, Rule}
 use Rattle.fancy_scanner.specs.declared.scanner.ScanTree.{ScanTree}
@@ -23,26 +23,13 @@ use Rattle.fancy_host.specs.Codes.{memory}
 use Rattle.fancy_host.specs.Hosted.{analysis, coded, compilation, compiled, given_backtracks, limits, refused, request}
 use Rattle.fancy_host.specs.Scanned.{Adds, HoldsSame, IsHeldBy, IsRuleFrom, fails, holds, keeps, rule_for}
 
-none_or : (n : Bool) → (not n || n) ≡ true
-none_or true = refl
-none_or false = refl
-
 at_start : is_place [] 0 ≡ true
 at_start = place_of_cut [] 0 (IsCharBoundary-start [] IsUtf8-nil)
 
 -- what a host asks for fits each text from its start on
 pub asked_fits : (o : FancyOptions) (s : SearchOptions) → s.analysis ≡ analysis o → s.compilation ≡ compilation o →
     run_options_of s.run ≡ begun_at (requests.running (request o)) 0 → search_fits s [] ≡ true
-asked_fits o s as_analysed as_compiled as_run =
-    let fits : AnalyzeContext → CompileOptions → plain.RunOptions → Bool = λ x c r. options_fit x c && not x.explicit_capture_group_0
-    && is_place [] r.pos && (not r.not_empty || x.find_not_empty) && (not r.leftmost_longest || x.leftmost_longest) in
-    ap (λ (x : AnalyzeContext). fits x s.compilation (run_options_of s.run)) as_analysed
-    ∙ ap (λ (x : CompileOptions). fits (analysis o) x (run_options_of s.run)) as_compiled
-    ∙ ap (λ (x : plain.RunOptions). fits (analysis o) (compilation o) x) as_run
-    ∙ and_from (options_fit (analysis o) (compilation o) && true && is_place [] 0 && (not o.not_empty || o.not_empty)) (not o.longest || o.longest)
-    (and_from (options_fit (analysis o) (compilation o) && true && is_place [] 0) (not o.not_empty || o.not_empty)
-    (and_from (options_fit (analysis o) (compilation o) && true) (is_place [] 0)
-    (and_from (options_fit (analysis o) (compilation o)) true (none_or o.end_text) refl) at_start) (none_or o.not_empty)) (none_or o.longest)
+asked_fits o s as_analysed as_compiled as_run = request_fits (record (request o) { pos = 0 }) [] s as_analysed as_compiled as_run at_start
 
 -- the rule of a tree, by the options that are handed to the scanner
 pub rule_so : (tree : ExprTree) (o : FancyOptions) (text : List ℕ) (a : AnalyzeContext) (k : CompileOptions) (r : plain.RunOptions) (b : Option ℕ) →

@@ -9,13 +9,12 @@ ghost use Rattle.fancy_search.specs.Searches.{search_fits};
 ghost use Rattle.fancy_matches.specs.Listing.{options_for};
 ghost use Rattle.fancy_regex.specs.Options.{ExceedsAnalysisLimit, analysis, compilation, default_options, limits, running};
 
-use fancy_analysis::analyze::AnalyzeContext;
 use fancy_analysis::limit::is_analysis_within;
-use fancy_compile::compile::{BytesMode, CompileOptions};
 use fancy_expr::expr::ExprTree;
 use fancy_pattern::options::ParseOptions;
+use fancy_search::request::Request;
 use fancy_search::search::SearchOptions;
-use fancy_vm::vm::{RunOptions, SearchLimits};
+use fancy_vm::vm::SearchLimits;
 use std::alloc::{AllocError, Global};
 
 /// How a pattern is read and compiled, and how its regex searches. [`RegexBuilder`](crate::RegexBuilder) sets it.
@@ -103,32 +102,21 @@ impl RegexOptions {
             ≡ running self.now text }
         ensures steps { result.run.step_limit ≡ self.now.step_limit }
     {
-        SearchOptions {
-            analysis: AnalyzeContext {
-                explicit_capture_group_0: false,
-                find_not_empty: self.not_empty,
-                disallow_empty_match_at_eof_after_newline: false,
-                leftmost_longest: self.longest,
-            },
-            compilation: CompileOptions {
-                anchored: false,
-                contains_subroutines: false,
-                disallow_empty_match_at_eof_after_newline: false,
-                bytes_mode: BytesMode::Unicode,
-                unicode: self.parsing.unicode,
-                max_prog_size: self.max_prog_size,
-                max_nesting: self.max_nesting,
-            },
-            run: RunOptions {
-                pos: 0,
-                anchored: false,
-                continued: true,
-                not_empty: self.not_empty,
-                leftmost_longest: self.longest,
-                // Each search has the limit of backtracks of the regex.
-                backtrack_limit: 0,
-                step_limit: self.step_limit,
-            },
-        }
+        let request = Request {
+            pos: 0,
+            compile_anchored: false,
+            anchored: false,
+            not_continued: false,
+            not_empty: self.not_empty,
+            end_text: false,
+            ascii: !self.parsing.unicode,
+            longest: self.longest,
+            max_prog_size: self.max_prog_size,
+            max_nesting: self.max_nesting,
+            // Each search has the limit of backtracks of the regex.
+            backtrack_limit: 0,
+            step_limit: self.step_limit,
+        };
+        request.options()
     }
 }

@@ -1,4 +1,5 @@
 pub mod Searched
+pub mod RequestLaws
 pub mod Bounded
 pub mod TooShort
 pub mod GearLaws

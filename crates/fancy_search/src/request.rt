@@ -1,8 +1,10 @@
 //! The options of a search as a user gives them, once for all stages.
 
-ghost use Rattle.std.specs.Prelude.{◌≡◌};
+ghost use Rattle.std.specs.Prelude.{◌≡◌, ℕ, IsTrue, List};
+ghost use Rattle.fancy_meaning.specs.Places.{is_place};
 ghost use Rattle.fancy_steps.specs.Tasks.{options_of as run_options_of};
 ghost use Rattle.fancy_search.specs.Requests as asked;
+ghost use Rattle.fancy_search.specs.Searches.{search_fits};
 
 use crate::search::SearchOptions;
 use fancy_analysis::analyze::AnalyzeContext;
@@ -87,6 +89,8 @@ impl Request {
         ensures analysis { result.analysis ≡ asked.analysis self.now }
         ensures compilation { result.compilation ≡ asked.compilation self.now }
         ensures run { run_options_of result.run ≡ asked.running self.now }
+        ensures fits { (text : List ℕ)
+            → IsTrue (is_place text self.now.pos) → IsTrue (search_fits result text) }
     {
         SearchOptions {
             analysis: self.analysis(),
