@@ -311,9 +311,12 @@ impl Compiled {
         ensures bounds { (i : Input)
             → IsCompiledFrom i self.now
             → Bounds i text.now (run_options_of options.now) result }
+        ensures limits { limits_of scratch.new ≡ limits_of scratch.old }
+        ensures stays { StaysWithin result (passed_of scratch.new) }
     {
         let mut numbers = Vec::new(alloc);
         if self.is_too_short(text, options.pos) {
+            scratch.limit(scratch.limits());
             return Ok(None);
         }
         let found = self.search_by_one_run(alloc, text, options, scratch, &mut numbers)?;
@@ -398,7 +401,10 @@ pub fn search(
         (input_of tree.now options.now.analysis options.now.compilation)
         options.now.compilation.max_nesting
         result }
+    ensures limits { limits_of scratch.new ≡ limits_of scratch.old }
+    ensures stays { StaysWithin result (passed_of scratch.new) }
 {
+    scratch.limit(scratch.limits());
     let compiled = Compiled::new(alloc, tree, options.analysis, options.compilation)?;
     scratch.forget_engine();
     compiled.run(alloc, text, &options.run, scratch)

@@ -1,11 +1,12 @@
 //! What searches and one-pass matches of delegates have noted, for later ones of the same run.
 
-ghost use Rattle.std.specs.Prelude.{◌≡◌, ◌<◌, ◌+◌, ◌/◌, if◌then◌else◌, min, nat_lt, Some, None, length, max, slice_get, slice_set, IfOk, IsTrue, OnOk};
+ghost use Rattle.std.specs.Prelude.{◌≡◌, ◌<◌, ◌+◌, ◌*◌, ◌/◌, if◌then◌else◌, min, nat_lt, Some, None, length, max, slice_get, slice_set, IfOk, IsTrue, OnOk};
 ghost use Rattle.fancy_meaning.specs.Places.{is_place};
 ghost use Rattle.fancy_fragments.specs.Fragments.{IsFirstWayOf, IsOnePassOf, IsOnePassWayOf};
 ghost use Rattle.fancy_nfa.specs.GroupSpans.{spans_in};
 ghost use Rattle.fancy_nfa.specs.Ways.{HasAscending};
 ghost use Rattle.fancy_steps.specs.MemoRuns.{AddsNoMemo, AreOfRuns};
+ghost use Rattle.fancy_steps.specs.SearchLimits.{visit_cost};
 
 use crate::machine::Task;
 use crate::search_limits::SearchCost;
@@ -341,6 +342,8 @@ impl Memos {
         requires memos { AreMemosOf task.now self.old }
         ensures first { IfOk result (IsFirstWayOf task.now.text.now fragment.now ix) }
         ensures ascends { IfOk result HasAscending }
+        ensures counted { IfOk result (λ found. 0 < found.visits → self.new.cost.visits
+            ≡ min u64.MAX (self.old.cost.visits + found.visits * visit_cost fragment.now)) }
         ensures memos { AreMemosOf task.now self.new }
     {
         if !fragment.nfa().can_begin(task.text, ix) {
@@ -369,6 +372,7 @@ impl Memos {
         ensures room { OnOk result (pc < length self.new.by_place.items) }
         ensures memos { AreMemosOf task.now self.new }
         ensures groups { self.new.groups ≡ self.old.groups }
+        ensures cost { self.new.cost ≡ self.old.cost }
     {
         grow(&mut self.by_place, pc)?;
         let pos = task.options.pos;
