@@ -1,8 +1,8 @@
 -- A text lacks what does not stand in what is left of it.
-use Rattle.std.proofs.Common.{◌≡◌, ⊎_elim, inl, inr, ℕ, ◌+◌, ◌-◌, ◌<◌, ◌≤◌, Bool, true, false, List, ◌++◌, take, drop, length, min, Option, Some, None, is_some, slice_index_or, refl, sym, ap, ◌∙◌, arith, take_all, take_at, drop-drop, length-append, length-drop}
+use Rattle.std.proofs.Common.{◌≡◌, ⊎_elim, inl, inr, ℕ, ◌+◌, ◌-◌, ◌<◌, ◌≤◌, Bool, true, false, List, ◌++◌, take, drop, length, min, Option, Some, None, is_some, slice_index, slice_index_or, refl, sym, ap, ◌∙◌, arith, eq-eqb, take_all, take_at, drop-drop, length-append, length-drop}
 use Rattle.std.proofs.lemmas.Bool.{cases_lt, false≢true, true≢false}
 use Rattle.std.proofs.lemmas.List.{drop_all, drop_more, get_or-drop}
-use Rattle.memchr.specs.Find.{FindsNeedle, OccursAt}
+use Rattle.memchr.specs.Find.{FindsNeedle, IsFirstByte, OccursAt, is_byte}
 use Rattle.memchr.proofs.lemmas.MatchLemmas.{OccursAt-from_part}
 use Rattle.regex_hir.specs.Text.{has_bytes_at}
 use Rattle.regex_hir.proofs.TextLemmas.{has_bytes_at_parts}
@@ -19,6 +19,19 @@ rest_from text from start is =
           let end : start ≡ length text = omega (arith, is, past) in
           drop_all start text (omega (arith, end)) ∙ sym (drop_all from text past)
     ]
+
+-- a text lacks a literal that is not found, or of which a byte is not found
+module _ (text literal : List ℕ) where
+  pub not_found : (o : Option ℕ) → FindsNeedle text literal 0 o → is_some o ≡ false → FindsNeedle text literal 0 None
+  not_found None nowhere none = nowhere
+  not_found (Some at) found none = absurd (true≢false none)
+
+  pub byte_not_found : (at byte : ℕ) → at < length literal → slice_index literal at ≡ byte → (o : Option ℕ) →
+      IsFirstByte (is_byte byte) text o → is_some o ≡ false → FindsNeedle text literal 0 None
+  byte_not_found at byte inside same None nowhere none = λ i low high occurs.
+      let fits = occurs.fits in
+      nowhere (i + at) (omega arith) (omega (arith, inside, fits)) (eq-eqb _ _ (occurs.reads at inside ∙ same))
+  byte_not_found at byte inside same (Some found) first none = absurd (true≢false none)
 
 module _ (text : List ℕ) (from : ℕ) where
   module _ (literal : List ℕ) where
@@ -41,14 +54,13 @@ module _ (text : List ℕ) (from : ℕ) where
         let empty : length literal ≡ 0 = omega (arith, past, ap length e, length-drop i text, length-append literal after) in
         record { fits = omega (arith, empty); reads = λ j lt. absurd (omega (arith, lt, empty)) }
 
-    pub literal_missing : (o : Option ℕ) → FindsNeedle (drop from text) literal 0 o → is_some o ≡ false → LacksFrom (Piece literal) text from
-    literal_missing None nowhere is i le h =
+    pub literal_missing : FindsNeedle (drop from text) literal 0 None → LacksFrom (Piece literal) text from
+    literal_missing nowhere i le h =
         ⊎_elim
         (λ (past : length text < i). nowhere 0 (omega arith) (omega arith) (occurs_past i past h))
         (λ (within : i ≤ length text).
         nowhere (i - from) (omega arith) (omega (arith, le, within, length-drop from text)) (occurs i le within h))
         (cases_lt (length text) i)
-    literal_missing (Some at) found is i le h = absurd (true≢false is)
 
   pub set_missing : (bytes : List Bool) → HasNone (is_in bytes) (drop from text) → LacksFrom (OneOf bytes) text from
   set_missing bytes none i le h =

@@ -1,6 +1,7 @@
 //! What each match of a tree takes: a literal, or a byte of a set.
 
-ghost use Rattle.std.specs.Prelude.{◌≡◌, ◌⊎◌, [], Bool, Some, IfOk, IfSome, false, map, string_bytes};
+ghost use Rattle.std.specs.Prelude.{◌≡◌, ◌⊎◌, [], Bool, None, Some, IfOk, IfSome, IsTrue, false, map, string_bytes};
+ghost use Rattle.memchr.specs.Find.{FindsNeedle};
 ghost use Rattle.fancy_meaning.specs.Tree.{Literal};
 ghost use Rattle.fancy_expr.specs.Views.{tree_of};
 ghost use Rattle.fancy_literals.specs.Required.{IsRequiredOf, required_of};
@@ -9,7 +10,8 @@ ghost use Rattle.fancy_literals.specs.Takes.{IsTaken, Takes};
 use crate::byte_set::ByteSet;
 use crate::bytes::bytes_of;
 use fancy_expr::expr::{Expr, LookAround};
-use memchr::memmem;
+use memchr::arch::all::packedpair::Pair;
+use memchr::{memchr, memmem};
 use std::alloc::{AllocError, Global};
 use std::mem;
 
@@ -23,7 +25,6 @@ pub enum Required {
 }
 
 impl Required {
-    ghost use Rattle.std.specs.Prelude.{IsTrue};
     ghost use Rattle.fancy_literals.specs.Required.{LacksFrom, required_of};
 
     /// Whether it stands nowhere in the text from this byte on. It takes time in the length of what is left of the
@@ -34,10 +35,22 @@ impl Required {
         let bytes = text.as_bytes();
         let rest = &bytes[from.min(bytes.len())..];
         match self {
-            Required::Literal(literal) => memmem::find(rest, literal).is_none(),
+            Required::Literal(literal) => lacks_literal(rest, literal),
             Required::OneOf(set) => set.is_missing(rest),
         }
     }
+}
+
+/// Whether the text lacks the literal. Its rarest byte is looked for first, since a search for one byte takes the least.
+fn lacks_literal(text: &[u8], literal: &[u8]) -> bool
+    ensures { IsTrue result → FindsNeedle text.now literal.now 0 None }
+{
+    if let Some(pair) = Pair::new(literal) {
+        if memchr(literal[pair.index1() as usize], text).is_none() {
+            return true;
+        }
+    }
+    memmem::find(text, literal).is_none()
 }
 
 /// What each match of the tree, compiled with this option `unicode`, takes: the longest literal that is known, or else

@@ -1,4 +1,4 @@
-use Rattle.std.proofs.Common.{◌≡◌, false, true, refl, replicate, string_bytes, subst, sym, ◌∙◌}
+use Rattle.std.proofs.Common.{false, refl, string_bytes, subst, sym, ◌∙◌}
 use Rattle.fancy_expr.specs.Views.{tree_of}
 use Rattle.fancy_literals.specs.Befores.{IsBefore}
 use Rattle.fancy_literals.specs.Leads.{AddsOf}

@@ -1,4 +1,4 @@
-use Rattle.std.proofs.Common.{◌-◌, ◌∙◌, List, ℕ, drop, length, not, sym, ap, subst, take}
+use Rattle.std.proofs.Common.{◌-◌, List, None, ℕ, drop, length, sym, subst, take}
 use Rattle.memchr.specs.Find.{FindsNeedle}
 use Rattle.fancy_literals.specs.ByteSets.{HasNone, is_in}
 use Rattle.fancy_literals.specs.Required.{LacksFrom, OneOf, Piece, required_of}
@@ -12,11 +12,10 @@ returns-in-Literal c = λ is.
     let literal : List ℕ = c.in-Literal.literal.items in
     subst (λ r. LacksFrom (required_of r) c.args.text.now from) (sym c.in-Literal.is)
     (subst (λ text. LacksFrom (Piece literal) text from) c.as_bytes-bytes.ensures.value
-    (literal_missing bytes from literal c.find.result
-    (subst (λ rest. FindsNeedle rest literal 0 c.find.result) (rest_from bytes from c.min.result c.min.ensures)
-    (subst (λ needle. FindsNeedle (take (length bytes - c.min.result) (drop c.min.result bytes)) needle 0 c.find.result)
-    c.deref.ensures.value c.find.ensures))
-    (c.is_none.ensures ∙ ap not is)))
+    (literal_missing bytes from literal
+    (subst (λ rest. FindsNeedle rest literal 0 None) (rest_from bytes from c.min.result c.min.ensures)
+    (subst (λ needle. FindsNeedle (take (length bytes - c.min.result) (drop c.min.result bytes)) needle 0 None)
+    c.deref.ensures.value (c.lacks_literal.ensures is)))))
 
 pub returns-in-OneOf : goal.returns-in-OneOf
 returns-in-OneOf c = λ is.
