@@ -136,7 +136,7 @@ impl CharTest {
         }
     }
 
-    /// Past the characters of ASCII from this place on that pass.
+    /// Past the characters of ASCII from this place on that pass. It asks once which kind of test this is, not at each.
     #[inline(always)]
     pub(crate) fn skip_ascii(&self, unicode: bool, text: &[u8], from: usize) -> usize
         requires { IsReadBy unicode self.now }
@@ -144,11 +144,28 @@ impl CharTest {
         ensures further { from ≤ result }
     {
         let mut place = from;
-        'run: while place < text.len()
-            && text[place] < 128
-            && self.takes_ascii(unicode, text[place])
-        {
-            place += 1;
+        match self {
+            CharTest::Any { newline: true, .. } => {
+                'ascii: while place < text.len() && text[place] < 128 {
+                    place += 1;
+                }
+            }
+            CharTest::Class(class) => {
+                'class: while place < text.len()
+                    && text[place] < 128
+                    && class.takes_ascii(text[place])
+                {
+                    place += 1;
+                }
+            }
+            _ => {
+                'run: while place < text.len()
+                    && text[place] < 128
+                    && self.takes_ascii(unicode, text[place])
+                {
+                    place += 1;
+                }
+            }
         }
         place
     }

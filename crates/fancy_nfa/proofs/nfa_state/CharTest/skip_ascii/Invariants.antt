@@ -9,3 +9,15 @@ invariant-run l = AllPass (passes [] l.unicode (test_of l.self)) l.text l.from l
 
 abbrev pub decreases-run : goal.decreases-run
 decreases-run l = length l.text - l.place
+
+abbrev pub invariant-ascii : goal.invariant-ascii
+invariant-ascii l = AllPass (passes [] l.unicode (test_of l.self)) l.text l.from l.place × (l.from ≤ l.place)
+
+abbrev pub decreases-ascii : goal.decreases-ascii
+decreases-ascii l = length l.text - l.place
+
+abbrev pub invariant-class : goal.invariant-class
+invariant-class l = AllPass (passes [] l.unicode (test_of l.self)) l.text l.from l.place × (l.from ≤ l.place)
+
+abbrev pub decreases-class : goal.decreases-class
+decreases-class l = length l.text - l.place
