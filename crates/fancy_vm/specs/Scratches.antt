@@ -15,8 +15,7 @@ allocator_of s = (s.room).alloc
 
 -- it holds no memory
 abbrev pub IsUnused : Scratch → Type 0
-IsUnused s =
-    ((s.room).state ≡ None) × (((s.room).memos ≡ None) × ((s.room).longest ≡ None))
+IsUnused s = ((s.room).state ≡ None) × ((s.room).memos ≡ None)
 
 abbrev pub cost_in : Option Memos → SearchCost
 cost_in None = no_cost

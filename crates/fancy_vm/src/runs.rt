@@ -8,7 +8,7 @@ ghost use Rattle.fancy_meaning.specs.Premises.{IsText};
 ghost use Rattle.fancy_vm.specs.Attempts.{MayAttempt};
 ghost use Rattle.fancy_vm.specs.Bounds.{IfLimit, RunMayPass};
 ghost use Rattle.fancy_vm.specs.Means.{IsMeaning, IsMeaningPair, numbers_of};
-ghost use Rattle.fancy_steps.specs.Outcomes.{RunAnswers, RunAnswersPair, answer_in, first_pair, held_match, plain_task};
+ghost use Rattle.fancy_steps.specs.Outcomes.{RunAnswers, RunAnswersPair, answer_in, first_pair, plain_task};
 ghost use Rattle.fancy_vm.specs.Ready.{AreFresh, AreMemosIn, IsReady, KeepsMemos};
 ghost use Rattle.fancy_steps.specs.SearchLimits.{StaysWithin, is_past, exceeds_bytes, no_cost, no_limits};
 ghost use Rattle.fancy_state.specs.Held.{first_state};
@@ -55,7 +55,6 @@ pub(crate) struct Room {
     alloc: Global,
     state: Option<State>,
     pub(crate) memos: Option<Memos>,
-    longest: Option<Longest>,
     /// How many states the run had taken up when the last attempt failed.
     visits: u64,
     /// How many attempts of single-delegate runs failed in all; one that took up many states counts as several.
@@ -71,7 +70,6 @@ impl Drop for Room {
             alloc: _,
             state: _,
             memos: _,
-            longest: _,
             visits: _,
             spent: _,
             work: _,
@@ -95,7 +93,6 @@ impl Scratch {
                 alloc,
                 state: None,
                 memos: None,
-                longest: None,
                 visits: 0,
                 spent: 0,
                 work: 0,
@@ -402,12 +399,14 @@ impl Room {
     {
         let slots = task.prog.parts.slots;
         self.renew_state(slots)?;
-        let mut m = Machine::begin(task, self.take_state(slots), self.take_longest());
+        let mut m = Machine::begin(task, self.take_state(slots), Longest::new(self.alloc));
         let Some(memos) = &mut self.memos else {
             unreachable!()
         };
         let answer = m.answer(memos, numbers);
-        self.keep(m, wants_memory(&answer));
+        self.note(&m, wants_memory(&answer));
+        let Machine { state, .. } = m;
+        self.state = Some(state);
         answer
     }
 
@@ -469,30 +468,15 @@ impl Room {
         state
     }
 
-    /// No match is held, with the scratch's memory.
+    /// Notes how much a run did. Where it ended because it was out of memory, and could have added no branch for the limit on
+    /// bytes, its bytes count, so that this limit is told.
     #[inline(always)]
-    fn take_longest(&mut self) -> Longest
-        ensures longest { held_match result ≡ None }
-        ensures memos { self.new.memos ≡ self.old.memos }
-    {
-        match self.longest.take() {
-            None => Longest::new(self.alloc),
-            Some(mut longest) => {
-                longest.forget();
-                longest
-            }
-        }
-    }
-
-    /// Keeps the memory of a run for the next one. Where it ended because it was out of memory, and could have added no branch for
-    /// the limit on bytes, its bytes count, so that this limit is told.
-    #[inline(always)]
-    fn keep(&mut self, m: Machine<'_>, wants_memory: bool)
+    fn note(&mut self, m: &Machine<'_>, wants_memory: bool)
         requires { IsTrue (is_some self.old.memos) }
         ensures told { IsTrue wants_memory
-            → IsTrue (exceeds_bytes m.entry.task.limits m.entry.state)
-            → IsTrue (is_past m.entry.task.limits.bytes (cost_in self.new.memos).bytes) }
-        ensures else_same { exceeds_bytes m.entry.task.limits m.entry.state ≡ false
+            → IsTrue (exceeds_bytes m.now.task.limits m.now.state)
+            → IsTrue (is_past m.now.task.limits.bytes (cost_in self.new.memos).bytes) }
+        ensures else_same { exceeds_bytes m.now.task.limits m.now.state ≡ false
             → cost_in self.new.memos ≡ cost_in self.old.memos }
         ensures memos { KeepsMemos self.old.memos self.new.memos }
     {
@@ -501,9 +485,6 @@ impl Room {
         }
         let executed = m.task.options.step_limit.saturating_sub(m.left);
         self.work = (executed / STEPS).saturating_add(m.backtracks as u64);
-        let Machine { state, longest, .. } = m;
-        self.state = Some(state);
-        self.longest = Some(longest);
     }
 
     /// The machine of the run held so many bytes.

@@ -22,5 +22,5 @@ returns-clause-answers c =
 
 pub returns-clause-memos : goal.returns-clause-memos
 returns-clause-memos c =
-    c.keep.ensures.memos c.args.task.now
+    c.note.ensures.memos c.args.task.now
     (subst (λ (t : Task). AreMemosOf t c.answer-answer.new.memos) c.begin-m.ensures.task c.answer-answer.ensures.memos)
