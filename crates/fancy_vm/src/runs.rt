@@ -353,7 +353,7 @@ impl Room {
         }
     }
 
-    /// The answer to an attempt, whose numbers are written over these. `Memory` too where earlier ones exceeded a limit.
+    /// The answer to an attempt, whose numbers are written over these.
     #[inline(always)]
     fn attempt(&mut self, task: &Task<'_>, numbers: &mut Vec<usize>) -> Result<bool, Error>
         requires fits { IsTrue (run_fits (plain_task task.now)) }
@@ -364,9 +364,6 @@ impl Room {
         ensures memos { AreMemosIn task.now self.new.memos }
     {
         self.work = 0;
-        if task.limits.passed_by(self.cost()).is_some() {
-            return Err(Error::Memory);
-        }
         let Some(memos) = &mut self.memos else {
             unreachable!()
         };
