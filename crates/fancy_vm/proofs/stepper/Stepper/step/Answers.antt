@@ -1,4 +1,4 @@
-use Rattle.std.proofs.Common.{◌+◌, ◌-◌, ◌<◌, ℕ, sym, ap, ◌∙◌, subst, refl, true, false, Ok, Err, IsTrue, IsUtf8, arith}
+use Rattle.std.proofs.Common.{◌+◌, ◌-◌, ◌<◌, ℕ, sym, subst, refl, true, false, Ok, Err, IsTrue, IsUtf8, arith}
 use Rattle.std.proofs.lemmas.Result.{err_from_is_err_and}
 use Rattle.fancy_meaning.specs.Config.{Outcome}
 use Rattle.fancy_meaning.specs.Fits.{run_fits}
