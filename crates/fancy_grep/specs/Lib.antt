@@ -6,7 +6,9 @@ pub mod Matchers
 pub mod Matching
 pub mod Needles
 pub mod Occurrences
+pub mod Outputs
 pub mod Patterns
+pub mod Printed
 pub mod Printing
 pub mod RegexOptions
 pub mod Reports

@@ -1,5 +1,8 @@
 //! A search of files, folders and standard input.
 
+ghost use Rattle.std.specs.Prelude.{◌≡◌, ◌&&◌, ◌||◌, is_some};
+ghost use Rattle.fancy_grep.specs.Reports.{exit_status, is_nothing};
+
 use crate::excerpt::push_excerpt;
 use crate::globs::chars_of;
 use crate::ignores::Ignores;
@@ -18,7 +21,7 @@ use fancy_pattern::pattern::parse_tree;
 use fancy_regex::{CompileError, Error};
 use std::alloc::{AllocError, Global};
 use std::fs::{DirEntry, File};
-use std::io::{ErrorKind, Read};
+use std::io::{ErrorKind, IsTerminal, Read, Stdout};
 use std::{fs, io};
 
 /// How many bytes a read of a file requests.
@@ -29,7 +32,7 @@ const BLOCK: usize = 131_072;
 struct Run<'r> {
     rt: &'r HostRuntime,
     matcher: Matcher,
-    out: Output,
+    out: Output<Stdout>,
     ignores: Ignores,
     report: Report,
     is_silent: bool,
@@ -41,7 +44,10 @@ struct Run<'r> {
 
 impl<'r> Run<'r> {
     /// The status of the program, as of grep.
-    fn status(&self) -> u8 {
+    fn status(&self) -> u8
+        ensures { result
+            ≡ exit_status self.now.report self.now.is_selected (self.now.has_failed || is_some (self.now.out).error) }
+    {
         if self.is_found() {
             0
         } else if self.has_failed || self.out.error().is_some() {
@@ -54,7 +60,9 @@ impl<'r> Run<'r> {
     }
 
     /// Whether a line was selected, and that is all that is asked.
-    fn is_found(&self) -> bool {
+    fn is_found(&self) -> bool
+        ensures { result ≡ (self.now.is_selected && is_nothing self.now.report) }
+    {
         self.is_selected && matches!(self.report, Report::Nothing)
     }
 
@@ -64,7 +72,10 @@ impl<'r> Run<'r> {
     }
 
     /// Writes what is kept, and returns the status. A closed pipe is not reported.
-    fn end(&mut self) -> u8 {
+    fn end(&mut self) -> u8
+        ensures { result
+            ≡ exit_status self.new.report self.new.is_selected (self.new.has_failed || is_some (self.new.out).error) }
+    {
         self.out.flush();
         if let Some(error) = self.out.error() {
             if error.kind() != ErrorKind::BrokenPipe {
@@ -561,10 +572,11 @@ fn search_all(
     if selects_none && !matches!(settings.report, Report::NameWithout) {
         return Ok(1);
     }
+    let by_lines = settings.is_line_buffered || rt.stdout().is_terminal();
     let mut run = Run {
         rt,
         matcher,
-        out: Output::new(rt.alloc(), rt.stdout(), settings.is_line_buffered),
+        out: Output::new(rt.alloc(), rt.stdout(), by_lines),
         ignores: Ignores::new(rt.alloc()),
         report: settings.report,
         is_silent: settings.is_silent,

@@ -1,6 +1,14 @@
 //! What is written of a file.
 
+ghost use Rattle.std.specs.Prelude.{◌≡◌, ℕ, IfNone, IfOk, IfSome, List, None, Ok, OnOk, codes, false, map, nat_lt, take, true};
+ghost use Rattle.std.specs.Bool.{then_some};
 ghost use Rattle.fancy_grep.specs.Context.{AreRising, numbers_of};
+ghost use Rattle.fancy_grep.specs.Lines.{line_of, lines_of};
+ghost use Rattle.fancy_grep.specs.Matching.{IsRegexFor, selected};
+ghost use Rattle.fancy_literals.specs.Required.{IsRequired, required_of};
+ghost use Rattle.fancy_meaning.specs.Options as plain;
+ghost use Rattle.fancy_meaning.specs.Premises.{Input};
+ghost use Rattle.fancy_grep.specs.Outputs.{Writes};
 
 use crate::around::{Around, skip_lines};
 use crate::budget::Budget;
@@ -9,12 +17,13 @@ use crate::lines::Line;
 use crate::matching::{Cause, Failure, MatchingLines, matching_lines};
 use crate::output::Output;
 use crate::patterns::Matcher;
-use crate::printing::{MATCH, NAME, Place, SEPARATOR, Style, push_name, push_painted, push_prefix};
-use crate::settings::{Report, Settings};
+use crate::printing::{MATCH, NAME, Place, SEPARATOR, Style};
+use crate::settings::Settings;
 use fancy_input::pieces::bytes_read_as;
 use fancy_regex::{Error, Regex};
 use memchr::{memchr, memchr_iter};
 use std::alloc::{AllocError, Global};
+use std::io::Write;
 
 /// Lines of a file that are searched together.
 #[derive(Clone, Copy)]
@@ -30,15 +39,16 @@ pub struct Part<'t> {
 }
 
 impl<'t> Part<'t> {
+    ghost use Rattle.fancy_grep.specs.Printed.{bytes_of};
+
     /// What is in the file of one of these lines, without its line end.
-    fn bytes_of(self, line: Line<'t>) -> &'t [u8] {
+    fn bytes_of(self, line: Line<'t>) -> &'t [u8]
+        ensures { result.now ≡ bytes_of self.entry line.entry.text.now }
+    {
         if !self.is_broken {
             return line.text.as_bytes();
         }
-        match self.bytes.strip_suffix(b"\n") {
-            Some(bytes) => bytes,
-            None => self.bytes,
-        }
+        self.bytes.strip_suffix(b"\n").unwrap_or(self.bytes)
     }
 
     /// How many lines these are.
@@ -137,6 +147,8 @@ pub struct Search<'s> {
 }
 
 impl<'s> Search<'s> {
+    ghost use Rattle.fancy_grep.specs.Printed.{IsPlain, left, printed_by, printed_count, printed_last, printed_name, style_of};
+
     pub fn new(alloc: Global, settings: Settings<'s>, name: &'s str, is_first: bool) -> Search<'s> {
         Search {
             alloc,
@@ -154,7 +166,9 @@ impl<'s> Search<'s> {
     }
 
     /// Whether a line is selected.
-    pub fn is_selected(&self) -> bool {
+    pub fn is_selected(&self) -> bool
+        ensures { result ≡ nat_lt 0 self.now.selected }
+    {
         self.selected > 0
     }
 
@@ -167,7 +181,9 @@ impl<'s> Search<'s> {
     }
 
     /// How many more lines may be selected.
-    fn left(&self) -> usize {
+    fn left(&self) -> usize
+        ensures { result ≡ left self.now }
+    {
         let most = self.settings.most.unwrap_or(usize::MAX);
         most.saturating_sub(self.selected)
     }
@@ -201,7 +217,9 @@ impl<'s> Search<'s> {
         !self.settings.has_offsets
     }
 
-    fn style(&self) -> Style<'s> {
+    fn style(&self) -> Style<'s>
+        ensures { result ≡ style_of self.now }
+    {
         Style {
             name: self
                 .settings
@@ -215,12 +233,20 @@ impl<'s> Search<'s> {
 
     /// Searches lines of the file, and writes what is asked for of them. What is returned is left of them: nothing, or the
     /// lines after one that failed.
-    pub fn search<'t>(
+    pub fn search<'t, W: Write + Drop>(
         &mut self,
-        out: &mut Output,
+        out: &mut Output<W>,
         matcher: &mut Matcher,
         part: Part<'t>,
-    ) -> Option<(Failure, Part<'t>)> {
+    ) -> Option<(Failure, Part<'t>)>
+        ensures { IfNone result (IsPlain self.old.settings
+            → (i : Input)
+            → (o : List ℕ → plain.RunOptions)
+            → IsRegexFor i o matcher.old.regex
+            → IfSome matcher.old.required (λ r. IsRequired (required_of r) true i)
+            → Writes W.contents out.old out.new (printed_by self.old part.entry
+            (take (left self.old) (selected i o (self.old.settings).choice (lines_of part.entry.text.now))))) }
+    {
         let MatchingLines { lines, failure } = matching_lines(
             self.alloc,
             &mut matcher.regex,
@@ -235,27 +261,27 @@ impl<'s> Search<'s> {
         };
         let (first, rest) = part.split(failure.searched());
         let failed = self.failed(failure, rest);
-        match self.write(out, &mut matcher.regex, part, first, &lines) {
-            None => failed,
-            earlier => earlier,
-        }
+        let earlier = self.write(out, &mut matcher.regex, part, first, &lines);
+        Some(earlier.unwrap_or(failed))
     }
 
     /// Writes the first lines of a part, of which these are selected, and passes them. It ends at a line that fails, with what
     /// is left of the part after it.
-    fn write<'t>(
+    fn write<'t, W: Write + Drop>(
         &mut self,
-        out: &mut Output,
+        out: &mut Output<W>,
         regex: &mut Regex,
         part: Part<'t>,
         first: Part<'t>,
         lines: &[Line<'t>],
     ) -> Option<(Failure, Part<'t>)>
         requires { AreRising 1 (numbers_of lines.now) }
+        ensures { IfNone result (IsPlain self.old.settings
+            → Writes W.contents out.old out.new (printed_by self.old first.entry (map line_of lines.now))) }
     {
         let Err(failure) = self.push(out, regex, first, lines) else {
-            let passed = self.pass(first, lines);
-            return self.failed(passed.err()?, Part::of_text("", part.start));
+            let failure = self.pass(first, lines).err()?;
+            return Some(self.failed(failure, Part::of_text("", part.start)));
         };
         let number = failure.number;
         let (done, rest) = if number == 0 {
@@ -265,28 +291,30 @@ impl<'s> Search<'s> {
         };
         let failed = self.failed(failure, rest);
         let _kept = self.pass(done, lines_to(lines, number));
-        failed
+        Some(failed)
     }
 
     /// A failure, with the number of its line in the file.
-    fn failed<'t>(&self, failure: Failure, rest: Part<'t>) -> Option<(Failure, Part<'t>)> {
+    fn failed<'t>(&self, failure: Failure, rest: Part<'t>) -> (Failure, Part<'t>) {
         let number = match failure.number {
             0 => 0,
             number => self.passed.saturating_add(number),
         };
         let cause = failure.cause;
-        Some((Failure { number, cause }, rest))
+        (Failure { number, cause }, rest)
     }
 
     /// Writes what is asked for of these lines, of which these are selected.
-    fn push(
+    fn push<W: Write + Drop>(
         &mut self,
-        out: &mut Output,
+        out: &mut Output<W>,
         regex: &mut Regex,
         part: Part<'_>,
         lines: &[Line<'_>],
     ) -> Result<(), Failure>
         requires { AreRising 1 (numbers_of lines.now) }
+        ensures { OnOk result (IsPlain self.old.settings
+            → Writes W.contents out.old out.new (printed_by self.old part.entry (map line_of lines.now))) }
     {
         if self.is_binary || !self.settings.report.has_lines() {
             return Ok(());
@@ -320,24 +348,40 @@ impl<'s> Search<'s> {
     }
 
     /// Writes what is asked for of the whole file.
-    pub fn finish(&self, out: &mut Output) -> Result<(), AllocError> {
-        let style = self.style();
-        match self.settings.report {
-            Report::Count => {
-                push_name(&mut out.kept, style, ":")?;
-                let count = self.selected.to_string(self.alloc)?;
-                out.kept.extend_from_slice(count.as_bytes())?;
-                out.end_line()
-            }
-            report if report.has_name(self.is_selected()) => {
-                push_painted(&mut out.kept, style.has_colours, NAME, self.name.as_bytes())?;
-                if style.has_zeros {
-                    return out.push(b"\0");
-                }
-                out.end_line()
-            }
-            _ => Ok(()),
+    pub fn finish<W: Write + Drop>(&self, out: &mut Output<W>) -> Result<(), AllocError>
+        ensures { OnOk result (Writes W.contents out.old out.new (printed_last self.now)) }
+    {
+        let report = self.settings.report;
+        if report.is_count() {
+            return self.push_count(out);
         }
+        if report.has_name(self.is_selected()) {
+            return self.push_name(out);
+        }
+        Ok(())
+    }
+
+    #[tactic(auto, using(crate::proofs::OutputLaws::writes_then))]
+    fn push_count<W: Write + Drop>(&self, out: &mut Output<W>) -> Result<(), AllocError>
+        ensures { OnOk result (Writes
+            W.contents out.old out.new (printed_count (style_of self.now) self.now.selected)) }
+    {
+        let count = self.selected.to_string(self.alloc)?;
+        out.push_name(self.style(), ":")?;
+        out.push(count.as_bytes())?;
+        out.end_line()
+    }
+
+    #[tactic(auto, using(crate::proofs::OutputLaws::writes_then))]
+    fn push_name<W: Write + Drop>(&self, out: &mut Output<W>) -> Result<(), AllocError>
+        ensures { OnOk result (Writes
+            W.contents out.old out.new (printed_name (style_of self.now) self.now.name.now)) }
+    {
+        out.push_painted(self.settings.has_colours, NAME, self.name.as_bytes())?;
+        if self.settings.has_zeros {
+            return out.push(b"\0");
+        }
+        out.end_line()
     }
 }
 
@@ -348,7 +392,9 @@ fn lines_to<'l, 't>(lines: &'l [Line<'t>], number: usize) -> &'l [Line<'t>] {
 }
 
 /// The error with the number of the line where it comes.
-fn fail_at(number: usize, pushed: Result<(), Error>) -> Result<(), Failure> {
+fn fail_at(number: usize, pushed: Result<(), Error>) -> Result<(), Failure>
+    ensures { IfOk result (λ done. pushed ≡ Ok done) }
+{
     match pushed {
         Ok(()) => Ok(()),
         Err(error) => Err(Failure {
@@ -359,7 +405,9 @@ fn fail_at(number: usize, pushed: Result<(), Error>) -> Result<(), Failure> {
 }
 
 /// The same, if the only error is out of memory.
-fn fail_for_memory(number: usize, pushed: Result<(), AllocError>) -> Result<(), Failure> {
+fn fail_for_memory(number: usize, pushed: Result<(), AllocError>) -> Result<(), Failure>
+    ensures { IfOk result (λ done. pushed ≡ Ok done) }
+{
     match pushed {
         Ok(()) => Ok(()),
         Err(_) => Err(Failure {
@@ -392,13 +440,19 @@ struct Page<'p> {
 }
 
 impl<'p> Page<'p> {
+    ghost use Rattle.fancy_grep.specs.Printed.{line_on, needs_matches, place_of, printed, printed_lines, printed_near, selected_on, separator};
+
     /// Writes selected lines.
-    fn push_lines(
+    fn push_lines<W: Write + Drop>(
         &self,
-        out: &mut Output,
+        out: &mut Output<W>,
         regex: &mut Regex,
         lines: &[Line<'p>],
-    ) -> Result<(), Failure> {
+    ) -> Result<(), Failure>
+        ensures { OnOk result (needs_matches self.now.settings ≡ false
+            → Writes W.contents out.old out.new (printed_lines
+            self.now.settings self.now.style self.now.passed self.now.part (map line_of lines.now))) }
+    {
         for line in lines {
             let pushed = self.push_line(out, regex, *line);
             fail_at(line.number, pushed)?;
@@ -407,9 +461,9 @@ impl<'p> Page<'p> {
     }
 
     /// Writes selected lines and the lines around them.
-    fn push_shown(
+    fn push_shown<W: Write + Drop>(
         &self,
-        out: &mut Output,
+        out: &mut Output<W>,
         regex: &mut Regex,
         context: Context,
         around: &mut Around,
@@ -436,9 +490,9 @@ impl<'p> Page<'p> {
     }
 
     /// Writes the lines before these that are near the first selected one.
-    fn push_before(
+    fn push_before<W: Write + Drop>(
         &self,
-        out: &mut Output,
+        out: &mut Output<W>,
         context: Context,
         around: &mut Around,
         first: usize,
@@ -457,13 +511,19 @@ impl<'p> Page<'p> {
     }
 
     /// Writes whole lines that are not selected, from this number on.
-    fn push_tail(&self, out: &mut Output, start: usize, bytes: &[u8]) -> Result<(), AllocError> {
+    fn push_tail<W: Write + Drop>(
+        &self,
+        out: &mut Output<W>,
+        start: usize,
+        bytes: &[u8],
+    ) -> Result<(), AllocError> {
         let mut rest = bytes;
         let mut number = start;
         'lines: for _ in 0..bytes.len() {
             let Some(at) = memchr(b'\n', rest) else { break };
             let offset = self.part.start.saturating_sub(rest.len());
-            self.push_near(out, number, offset, rest.get(..at).unwrap_or(&[]))?;
+            let place = self.place(number, None, offset);
+            self.push_near(out, place, rest.get(..at).unwrap_or(&[]))?;
             rest = rest.get(at.saturating_add(1)..).unwrap_or(&[]);
             number = number.saturating_add(1);
         }
@@ -471,9 +531,9 @@ impl<'p> Page<'p> {
     }
 
     /// Writes what separates lines, if lines are left out before the one with this number, which is written next.
-    fn push_gap(
+    fn push_gap<W: Write + Drop>(
         &self,
-        out: &mut Output,
+        out: &mut Output<W>,
         around: &mut Around,
         number: usize,
     ) -> Result<(), AllocError> {
@@ -485,29 +545,40 @@ impl<'p> Page<'p> {
     }
 
     /// Writes what separates lines that do not follow each other.
-    fn push_separator(&self, out: &mut Output) -> Result<(), AllocError> {
-        push_painted(&mut out.kept, self.style.has_colours, SEPARATOR, b"--")?;
+    #[tactic(auto, using(crate::proofs::OutputLaws::writes_then))]
+    fn push_separator<W: Write + Drop>(&self, out: &mut Output<W>) -> Result<(), AllocError>
+        ensures { OnOk result (Writes W.contents out.old out.new (separator (self.now.style).has_colours)) }
+    {
+        out.push_painted(self.style.has_colours, SEPARATOR, b"--")?;
         out.end_line()
     }
 
     /// Writes a line that is shown.
-    fn push_next(
+    fn push_next<W: Write + Drop>(
         &self,
-        out: &mut Output,
+        out: &mut Output<W>,
         regex: &mut Regex,
         shown: Shown<'p>,
     ) -> Result<(), Error> {
         if shown.is_selected {
             return self.push_line(out, regex, shown.line);
         }
-        let number = self.passed.saturating_add(shown.line.number);
-        let offset = self.part.start.saturating_add(shown.line.start);
-        self.push_near(out, number, offset, self.part.bytes_of(shown.line))?;
+        self.push_near(
+            out,
+            self.place_of(shown.line),
+            self.part.bytes_of(shown.line),
+        )?;
         Ok(())
     }
 
     /// Where the line with this number of the file is, or what is this far from its start, as it is written.
-    fn place(&self, number: usize, column: Option<usize>, offset: usize) -> Place {
+    fn place(&self, number: usize, column: Option<usize>, offset: usize) -> Place
+        ensures { result ≡ record {
+          number = then_some (self.now.settings).has_numbers number;
+          column = column;
+          offset = then_some (self.now.settings).has_offsets offset;
+        } }
+    {
         Place {
             number: self.settings.has_numbers.then_some(number),
             column,
@@ -536,12 +607,20 @@ impl<'p> Page<'p> {
         }
     }
 
-    /// Where a selected line is, as it is written, with the place of its first match.
-    fn place_of(&self, regex: &mut Regex, line: Line<'p>) -> Result<Place, Error> {
-        let place = Place {
-            column: None,
-            ..self.place_in(line, 0)
-        };
+    /// Where a line is, as it is written.
+    fn place_of(&self, line: Line<'p>) -> Place
+        ensures { result ≡ place_of self.now.settings (line_on self.now line.entry) }
+    {
+        let number = self.passed.saturating_add(line.number);
+        self.place(number, None, self.part.start.saturating_add(line.start))
+    }
+
+    /// The same of a selected line, with the place of its first match.
+    fn place_of_first(&self, regex: &mut Regex, line: Line<'p>) -> Result<Place, Error>
+        ensures { IfOk result (λ place. needs_matches self.now.settings ≡ false
+            → place ≡ place_of self.now.settings (line_on self.now line.entry)) }
+    {
+        let place = self.place_of(line);
         if !self.settings.has_columns || self.settings.choice.inverted {
             return Ok(place);
         }
@@ -559,54 +638,88 @@ impl<'p> Page<'p> {
     }
 
     /// Writes a line that is not selected, unless matches alone are asked for.
-    fn push_near(
+    #[tactic(auto, using(crate::proofs::OutputLaws::writes_then))]
+    fn push_near<W: Write + Drop>(
         &self,
-        out: &mut Output,
-        number: usize,
-        offset: usize,
+        out: &mut Output<W>,
+        place: Place,
         bytes: &[u8],
-    ) -> Result<(), AllocError> {
-        if matches!(self.settings.report, Report::Matches) {
+    ) -> Result<(), AllocError>
+        ensures { OnOk result (Writes W.contents out.old out.new
+            (printed_near self.now.settings self.now.style place bytes.now)) }
+    {
+        if self.settings.report.is_matches() {
             return Ok(());
         }
-        let place = self.place(number, None, offset);
-        push_prefix(&mut out.kept, self.style, place, "-")?;
+        out.push_prefix(self.style, place, "-")?;
         out.push(bytes)?;
         out.end_line()
     }
 
     /// Writes what is asked for of a selected line.
-    fn push_line(&self, out: &mut Output, regex: &mut Regex, line: Line<'p>) -> Result<(), Error> {
-        match self.settings.report {
-            Report::Matches if self.settings.choice.inverted => Ok(()),
-            Report::Matches => self.push_matches(out, regex, line),
-            _ => self.push_selected(out, regex, line),
+    fn push_line<W: Write + Drop>(
+        &self,
+        out: &mut Output<W>,
+        regex: &mut Regex,
+        line: Line<'p>,
+    ) -> Result<(), Error>
+        ensures { OnOk result (needs_matches self.now.settings ≡ false
+            → Writes W.contents out.old out.new (selected_on self.now line.entry)) }
+    {
+        if !self.settings.report.is_matches() {
+            return self.push_selected(out, regex, line);
+        }
+        if self.settings.choice.inverted {
+            return Ok(());
+        }
+        match self.settings.template {
+            Some(template) => self.push_expanded(out, regex, line, template),
+            None => self.push_found(out, regex, line),
         }
     }
 
-    fn push_selected(
+    #[tactic(auto, using(crate::proofs::OutputLaws::writes_then))]
+    fn push_selected<W: Write + Drop>(
         &self,
-        out: &mut Output,
+        out: &mut Output<W>,
         regex: &mut Regex,
         line: Line<'p>,
-    ) -> Result<(), Error> {
-        let place = self.place_of(regex, line)?;
-        push_prefix(&mut out.kept, self.style, place, ":")?;
-        match self.settings.template {
-            Some(template) => self.push_replaced(out, regex, line, template)?,
-            None if self.settings.has_colours && !self.settings.choice.inverted => {
-                self.push_coloured(out, regex, line)?
-            }
-            None => out.push(self.part.bytes_of(line))?,
-        }
+    ) -> Result<(), Error>
+        ensures { OnOk result (needs_matches self.now.settings ≡ false
+            → Writes W.contents out.old out.new (printed (codes ":") self.now.style
+            (place_of self.now.settings (line_on self.now line.entry)) (line_on self.now line.entry).text)) }
+    {
+        let place = self.place_of_first(regex, line)?;
+        out.push_prefix(self.style, place, ":")?;
+        self.push_text(out, regex, line)?;
         out.end_line()?;
         Ok(())
     }
 
-    /// Writes the line, its matches in a colour.
-    fn push_coloured(
+    /// Writes what is in a selected line, or what it becomes.
+    fn push_text<W: Write + Drop>(
         &self,
-        out: &mut Output,
+        out: &mut Output<W>,
+        regex: &mut Regex,
+        line: Line<'p>,
+    ) -> Result<(), Error>
+        ensures { OnOk result (needs_matches self.now.settings ≡ false
+            → Writes W.contents out.old out.new (line_on self.now line.entry).text) }
+    {
+        if let Some(template) = self.settings.template {
+            return self.push_replaced(out, regex, line, template);
+        }
+        if self.settings.has_colours && !self.settings.choice.inverted {
+            return self.push_coloured(out, regex, line);
+        }
+        out.push(self.part.bytes_of(line))?;
+        Ok(())
+    }
+
+    /// Writes the line, its matches in a colour.
+    fn push_coloured<W: Write + Drop>(
+        &self,
+        out: &mut Output<W>,
         regex: &mut Regex,
         line: Line<'p>,
     ) -> Result<(), Error> {
@@ -616,7 +729,7 @@ impl<'p> Page<'p> {
             out.push(rest.take_to(found.start()))?;
             let bytes = rest.take_to(found.end());
             if !bytes.is_empty() {
-                push_painted(&mut out.kept, true, MATCH, bytes)?;
+                out.push_painted(true, MATCH, bytes)?;
             }
         }
         out.push(rest.bytes)?;
@@ -624,9 +737,9 @@ impl<'p> Page<'p> {
     }
 
     /// Writes the line, its matches replaced.
-    fn push_replaced(
+    fn push_replaced<W: Write + Drop>(
         &self,
-        out: &mut Output,
+        out: &mut Output<W>,
         regex: &mut Regex,
         line: Line<'p>,
         template: &str,
@@ -645,20 +758,13 @@ impl<'p> Page<'p> {
         Ok(())
     }
 
-    /// Writes each match of a line, or what stands for it, on a line of its own.
-    fn push_matches(
+    /// Writes each match of a line on a line of its own.
+    fn push_found<W: Write + Drop>(
         &self,
-        out: &mut Output,
+        out: &mut Output<W>,
         regex: &mut Regex,
         line: Line<'p>,
     ) -> Result<(), Error> {
-        match self.settings.template {
-            Some(template) => self.push_expanded(out, regex, line, template),
-            None => self.push_found(out, regex, line),
-        }
-    }
-
-    fn push_found(&self, out: &mut Output, regex: &mut Regex, line: Line<'p>) -> Result<(), Error> {
         let mut rest = self.rest_of(line);
         for found in regex.find_iter(rest.text) {
             let found = found?;
@@ -669,9 +775,10 @@ impl<'p> Page<'p> {
         Ok(())
     }
 
-    fn push_expanded(
+    /// Writes what stands for each match of a line on a line of its own.
+    fn push_expanded<W: Write + Drop>(
         &self,
-        out: &mut Output,
+        out: &mut Output<W>,
         regex: &mut Regex,
         line: Line<'p>,
         template: &str,
@@ -688,12 +795,17 @@ impl<'p> Page<'p> {
     }
 
     /// Writes what is not empty on a line of its own, with what is before a line.
-    fn push_part(&self, out: &mut Output, place: Place, part: &[u8]) -> Result<(), AllocError> {
+    fn push_part<W: Write + Drop>(
+        &self,
+        out: &mut Output<W>,
+        place: Place,
+        part: &[u8],
+    ) -> Result<(), AllocError> {
         if part.is_empty() {
             return Ok(());
         }
-        push_prefix(&mut out.kept, self.style, place, ":")?;
-        push_painted(&mut out.kept, self.style.has_colours, MATCH, part)?;
+        out.push_prefix(self.style, place, ":")?;
+        out.push_painted(self.style.has_colours, MATCH, part)?;
         if self.settings.choice.has_returns {
             out.push(b"\r")?;
         }

@@ -1,7 +1,7 @@
 //! What is asked of a search of texts.
 
 ghost use Rattle.std.specs.Prelude.{◌≡◌};
-ghost use Rattle.fancy_grep.specs.Reports.{has_lines, has_name, is_decided_by_line};
+ghost use Rattle.fancy_grep.specs.Reports.{has_lines, has_name, is_count, is_decided_by_line, is_matches};
 
 use crate::context::Context;
 use crate::matching::Choice;
@@ -31,6 +31,20 @@ impl Report {
         ensures { result ≡ has_lines self }
     {
         matches!(self, Report::Lines | Report::Matches)
+    }
+
+    /// The matches are written, and not the lines.
+    pub(crate) fn is_matches(self) -> bool
+        ensures { result ≡ is_matches self }
+    {
+        matches!(self, Report::Matches)
+    }
+
+    /// The number of the selected lines is written.
+    pub(crate) fn is_count(self) -> bool
+        ensures { result ≡ is_count self }
+    {
+        matches!(self, Report::Count)
     }
 
     /// The name of a text is written, by whether a line of it is selected.
