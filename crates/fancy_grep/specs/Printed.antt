@@ -6,6 +6,7 @@ use Rattle.std.specs.Cmp.Lexicographic.{pointwise}
 use Rattle.fancy_grep.specs.Lines.{Line, line_of}
 use Rattle.fancy_grep.specs.Printing.{name_part, painted, prefix}
 use Rattle.fancy_grep.specs.Reports.{has_lines, has_name, is_count, is_matches}
+use Rattle.fancy_grep.specs.declared.context.Shown.{Shown}
 use Rattle.fancy_grep.specs.declared.printing.Place.{Place}
 use Rattle.fancy_grep.specs.declared.printing.Style.{Style}
 use Rattle.fancy_grep.specs.declared.lines.Line as code
@@ -71,6 +72,30 @@ line_on p l = in_file p.passed p.part (line_of l)
 
 abbrev pub selected_on : Page → code.Line → List ℕ
 selected_on p l = printed_selected p.settings p.style (line_on p l)
+
+-- ---- the lines of a page with lines around them
+
+-- lines are left out before this one; the last one that was printed has this number, if there is one of its file
+abbrev pub has_gap : Option ℕ → ℕ → (is_first : Bool) → Bool
+has_gap None number is_first = not is_first
+has_gap (Some last) number is_first = nat_lt 1 (number - last)
+
+abbrev pub gap : Page → Option ℕ → ℕ → List ℕ
+gap p last number = if has_gap last number p.is_first then separator (p.style).has_colours else []
+
+abbrev pub number_on : Page → Shown → ℕ
+number_on p s = capped (p.passed + (s.line).number)
+
+-- a line that is shown, where no match has to be found
+abbrev pub shown_on : Page → Shown → List ℕ
+shown_on p s =
+    if s.is_selected then selected_on p s.line
+    else printed_near p.settings p.style (place_of p.settings (line_on p s.line)) (line_on p s.line).text
+
+-- Lines that are shown, in order, with what separates those between which others are left out.
+abbrev pub printed_all : Page → Option ℕ → List Shown → List ℕ
+printed_all p last [] = []
+printed_all p last (s ∷ lines) = (gap p last (number_on p s) ++ shown_on p s) ++ printed_all p (Some (number_on p s)) lines
 
 -- ---- a file
 

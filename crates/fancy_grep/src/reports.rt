@@ -1,6 +1,6 @@
 //! What is written of a file.
 
-ghost use Rattle.std.specs.Prelude.{◌≡◌, ℕ, IfNone, IfOk, IfSome, List, None, Ok, OnOk, codes, false, map, nat_lt, take, true};
+ghost use Rattle.std.specs.Prelude.{◌≡◌, ◌+◌, ◌++◌, ℕ, IfNone, IfOk, IfSome, List, None, Ok, OnOk, Some, codes, false, length, map, nat_lt, take, true};
 ghost use Rattle.std.specs.Bool.{then_some};
 ghost use Rattle.fancy_grep.specs.Context.{AreRising, numbers_of};
 ghost use Rattle.fancy_grep.specs.Lines.{line_of, lines_of};
@@ -9,6 +9,7 @@ ghost use Rattle.fancy_literals.specs.Required.{IsRequired, required_of};
 ghost use Rattle.fancy_meaning.specs.Options as plain;
 ghost use Rattle.fancy_meaning.specs.Premises.{Input};
 ghost use Rattle.fancy_grep.specs.Outputs.{Writes};
+ghost use Rattle.fancy_grep.specs.Printed.{has_gap};
 
 use crate::around::{Around, skip_lines};
 use crate::budget::Budget;
@@ -147,7 +148,7 @@ pub struct Search<'s> {
 }
 
 impl<'s> Search<'s> {
-    ghost use Rattle.fancy_grep.specs.Printed.{IsPlain, left, printed_by, printed_count, printed_last, printed_name, style_of};
+    ghost use Rattle.fancy_grep.specs.Printed.{IsPlain, capped, left, printed_by, printed_count, printed_last, printed_name, style_of};
 
     pub fn new(alloc: Global, settings: Settings<'s>, name: &'s str, is_first: bool) -> Search<'s> {
         Search {
@@ -239,7 +240,13 @@ impl<'s> Search<'s> {
         matcher: &mut Matcher,
         part: Part<'t>,
     ) -> Option<(Failure, Part<'t>)>
-        ensures { IfNone result (IsPlain self.old.settings
+        ensures counts { IfNone result ((i : Input)
+            → (o : List ℕ → plain.RunOptions)
+            → IsRegexFor i o matcher.old.regex
+            → IfSome matcher.old.required (λ r. IsRequired (required_of r) true i)
+            → self.new.selected ≡ capped (self.old.selected + length (take (left self.old)
+            (selected i o (self.old.settings).choice (lines_of part.entry.text.now))))) }
+        ensures writes { IfNone result (IsPlain self.old.settings
             → (i : Input)
             → (o : List ℕ → plain.RunOptions)
             → IsRegexFor i o matcher.old.regex
@@ -276,8 +283,10 @@ impl<'s> Search<'s> {
         lines: &[Line<'t>],
     ) -> Option<(Failure, Part<'t>)>
         requires { AreRising 1 (numbers_of lines.now) }
-        ensures { IfNone result (IsPlain self.old.settings
+        ensures writes { IfNone result (IsPlain self.old.settings
             → Writes W.contents out.old out.new (printed_by self.old first.entry (map line_of lines.now))) }
+        ensures counts { IfNone result (self.new.selected
+            ≡ capped (self.old.selected + length (map line_of lines.now))) }
     {
         let Err(failure) = self.push(out, regex, first, lines) else {
             let failure = self.pass(first, lines).err()?;
@@ -313,8 +322,9 @@ impl<'s> Search<'s> {
         lines: &[Line<'_>],
     ) -> Result<(), Failure>
         requires { AreRising 1 (numbers_of lines.now) }
-        ensures { OnOk result (IsPlain self.old.settings
+        ensures writes { OnOk result (IsPlain self.old.settings
             → Writes W.contents out.old out.new (printed_by self.old part.entry (map line_of lines.now))) }
+        ensures counts { self.new.selected ≡ self.old.selected }
     {
         if self.is_binary || !self.settings.report.has_lines() {
             return Ok(());
@@ -334,7 +344,9 @@ impl<'s> Search<'s> {
     }
 
     /// Passes these lines, of which these are selected.
-    fn pass(&mut self, part: Part<'_>, lines: &[Line<'_>]) -> Result<(), Failure> {
+    fn pass(&mut self, part: Part<'_>, lines: &[Line<'_>]) -> Result<(), Failure>
+        ensures { self.new.selected ≡ capped (self.old.selected + length (map line_of lines.now)) }
+    {
         let count = part.count();
         self.passed = self.passed.saturating_add(count);
         self.selected = self.selected.saturating_add(lines.len());
@@ -419,7 +431,9 @@ fn fail_for_memory(number: usize, pushed: Result<(), AllocError>) -> Result<(), 
 
 /// Whether lines are left out before the line with this number; `last` is that of the line written before, if there is
 /// one in this file.
-fn has_gap(last: Option<usize>, number: usize, is_first: bool) -> bool {
+fn has_gap(last: Option<usize>, number: usize, is_first: bool) -> bool
+    ensures { result ≡ has_gap last number is_first }
+{
     match last {
         Some(last) => number.saturating_sub(last) > 1,
         None => !is_first,
@@ -440,7 +454,7 @@ struct Page<'p> {
 }
 
 impl<'p> Page<'p> {
-    ghost use Rattle.fancy_grep.specs.Printed.{line_on, needs_matches, place_of, printed, printed_lines, printed_near, selected_on, separator};
+    ghost use Rattle.fancy_grep.specs.Printed.{gap, line_on, needs_matches, number_on, place_of, printed, printed_all, printed_lines, printed_near, selected_on, separator, shown_on};
 
     /// Writes selected lines.
     fn push_lines<W: Write + Drop>(
@@ -477,14 +491,23 @@ impl<'p> Page<'p> {
         if let Some(first) = lines.first() {
             fail_for_memory(0, self.push_before(out, context, around, first.number))?;
         }
-        for shown in &shown {
-            let number = shown.line.number;
-            fail_for_memory(
-                number,
-                self.push_gap(out, around, self.passed.saturating_add(number)),
-            )?;
-            let pushed = self.push_next(out, regex, *shown);
-            fail_at(number, pushed)?;
+        self.push_all(out, regex, around, &shown)
+    }
+
+    /// Writes lines that are shown, and what separates them.
+    fn push_all<W: Write + Drop>(
+        &self,
+        out: &mut Output<W>,
+        regex: &mut Regex,
+        around: &mut Around,
+        lines: &[Shown<'p>],
+    ) -> Result<(), Failure>
+        ensures { OnOk result (needs_matches self.now.settings ≡ false
+            → Writes W.contents out.old out.new (printed_all self.now around.old.last lines.now)) }
+    {
+        for shown in lines {
+            let pushed = self.push_next(out, regex, around, *shown);
+            fail_at(shown.line.number, pushed)?;
         }
         Ok(())
     }
@@ -536,11 +559,16 @@ impl<'p> Page<'p> {
         out: &mut Output<W>,
         around: &mut Around,
         number: usize,
-    ) -> Result<(), AllocError> {
-        if has_gap(around.last, number, self.is_first) {
-            self.push_separator(out)?;
-        }
+    ) -> Result<(), AllocError>
+        ensures writes { OnOk result (Writes W.contents out.old out.new
+            (gap self.now around.old.last number)) }
+        ensures last { around.new.last ≡ Some number }
+    {
+        let has_gap = has_gap(around.last, number, self.is_first);
         around.last = Some(number);
+        if has_gap {
+            return self.push_separator(out);
+        }
         Ok(())
     }
 
@@ -553,13 +581,22 @@ impl<'p> Page<'p> {
         out.end_line()
     }
 
-    /// Writes a line that is shown.
+    /// Writes a line that is shown, after what separates it from the one before.
+    #[tactic(auto, using(crate::proofs::OutputLaws::writes_then))]
     fn push_next<W: Write + Drop>(
         &self,
         out: &mut Output<W>,
         regex: &mut Regex,
+        around: &mut Around,
         shown: Shown<'p>,
-    ) -> Result<(), Error> {
+    ) -> Result<(), Error>
+        ensures writes { OnOk result (needs_matches self.now.settings ≡ false
+            → Writes W.contents out.old out.new
+            (gap self.now around.old.last (number_on self.now shown.entry) ++ shown_on self.now shown.entry)) }
+        ensures last { OnOk result (around.new.last ≡ Some (number_on self.now shown.entry)) }
+    {
+        let number = self.passed.saturating_add(shown.line.number);
+        self.push_gap(out, around, number)?;
         if shown.is_selected {
             return self.push_line(out, regex, shown.line);
         }
