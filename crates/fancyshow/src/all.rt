@@ -1,14 +1,13 @@
 //! All matches of a text, marked in its lines.
 
 use crate::excerpt::{columns, push_shown, push_times};
-use crate::find::{Groups, Searcher, push_found, searcher_of};
-use crate::no_match::no_match;
-use crate::outcome::Trouble;
-use crate::paint::{Paint, group_class};
+use crate::find::{Groups, Searcher, no_match, push_groups, push_part, searcher_of, span_of};
+use crate::html::{Paint, group_class};
+use crate::outcome::{Answer, Trouble, Written, search_trouble};
 use crate::request::Request;
 use crate::source::Span;
 use fancy_expr::error::Error;
-use fancy_matches::found::{Captures, Match};
+use fancy_matches::found::Captures;
 use std::alloc::{AllocError, Global};
 
 /// The mark under each byte of the text, and under its end: `^` where a part begins that is not empty, `~` further on in it,
@@ -16,27 +15,23 @@ use std::alloc::{AllocError, Global};
 fn marks(alloc: Global, text: &str, parts: &[Span]) -> Result<Vec<char>, AllocError> {
     let mut marks = vec![in alloc; ' '; text.len().saturating_add(1)]?;
     for (start, end) in parts {
-        set_mark(&mut marks, *start, if start == end { '|' } else { '^' });
-        for at in start.saturating_add(1)..*end {
-            set_mark(&mut marks, at, '~');
+        for at in *start..*end {
+            set_at(&mut marks, at, '~');
         }
+        set_at(&mut marks, *start, if start == end { '|' } else { '^' });
     }
     Ok(marks)
 }
 
-fn set_mark(marks: &mut Vec<char>, at: usize, mark: char) {
-    if let Some(place) = marks.get_mut(at) {
-        *place = mark;
+/// Sets what belongs to this byte of a text, if it has the byte.
+pub fn set_at<T: Copy>(of_bytes: &mut [T], at: usize, value: T) {
+    if let Some(place) = of_bytes.get_mut(at) {
+        *place = value;
     }
 }
 
-/// Writes the marks under a line, in the columns of its characters. The last of these marks is under its end.
-fn push_marks(
-    alloc: Global,
-    out: &mut String,
-    line: &str,
-    marks: &[char],
-) -> Result<(), AllocError> {
+/// The marks under a line, in the columns of its characters. The last of these marks is under its end.
+fn marks_of(alloc: Global, line: &str, marks: &[char]) -> Result<String, AllocError> {
     let mut shown = String::new(alloc);
     for (at, c) in line.char_indices() {
         let mark = marks.get(at).copied().unwrap_or(' ');
@@ -45,7 +40,7 @@ fn push_marks(
         push_times(&mut shown, further, columns(c).saturating_sub(1))?;
     }
     shown.push(marks.last().copied().unwrap_or(' '))?;
-    out.push_str(shown.as_str().trim_end())
+    Ok(shown)
 }
 
 /// What is before the marks of a line, after the line itself, and what ends them.
@@ -57,24 +52,16 @@ fn around_marks(colours: bool) -> (&'static str, &'static str) {
     }
 }
 
-/// Writes the line with its number and its marks, if it has some.
-fn push_line(
-    alloc: Global,
-    out: &mut String,
-    number: usize,
-    line: &str,
-    marks: &[char],
-    colours: bool,
-) -> Result<(), AllocError> {
-    if marks.iter().all(|mark| *mark == ' ') {
+/// Writes the line with its number and these marks, if there are some.
+fn push_line(out: &mut String, number: usize, line: &str, marks: &str, colours: bool) -> Written {
+    let marks = marks.trim_end();
+    if marks.is_empty() {
         return Ok(());
     }
     let (before, behind) = around_marks(colours);
     write!(out, "{number:>5} | ")?;
     push_shown(out, line)?;
-    out.push_str(before)?;
-    push_marks(alloc, out, line, marks)?;
-    out.push_str(behind)
+    write!(out, "{before}{marks}{behind}")
 }
 
 /// The lines of a text in which these parts of it are, with marks below them.
@@ -89,8 +76,8 @@ pub fn marked_lines(
     let mut start: usize = 0;
     for (i, line) in text.split('\n').enumerate() {
         let next = start.saturating_add(line.len()).saturating_add(1);
-        let own = marks.get(start..next).unwrap_or(&[]);
-        push_line(alloc, &mut out, i.saturating_add(1), line, own, colours)?;
+        let own = marks_of(alloc, line, marks.get(start..next).unwrap_or(&[]))?;
+        push_line(&mut out, i.saturating_add(1), line, own.as_str(), colours)?;
         start = next;
     }
     Ok(out)
@@ -105,57 +92,53 @@ pub struct Found {
 }
 
 impl Found {
-    fn push(&mut self, captures: &Captures<'_>, groups: &Groups) -> Result<(), AllocError> {
-        let whole = captures.whole();
-        self.spans.push((whole.start(), whole.end()))?;
+    fn push(&mut self, text: &str, captures: &Captures<'_>, groups: &Groups) -> Written {
+        let whole = span_of(captures.whole());
+        self.spans.push(whole)?;
         let number = self.spans.len();
-        self.paint(Some(whole), if number % 2 == 1 { "m1" } else { "m2" })?;
+        let class = if number % 2 == 1 { "m1" } else { "m2" };
+        self.paints.push(Paint { span: whole, class })?;
         for group in 1..=groups.count {
-            self.paint(captures.get(group), group_class(group))?;
+            if let Some(found) = captures.get(group) {
+                let (span, class) = (span_of(found), group_class(group));
+                self.paints.push(Paint { span, class })?;
+            }
         }
         write!(self.list, "match {number}  ")?;
-        push_found(&mut self.list, captures, groups, 2)
-    }
-
-    /// Gives a part of the text a colour, if there is one.
-    fn paint(&mut self, part: Option<Match<'_>>, class: &'static str) -> Result<(), AllocError> {
-        if let Some(part) = part {
-            let span = (part.start(), part.end());
-            self.paints.push(Paint { span, class })?;
-        }
-        Ok(())
+        push_part(&mut self.list, text, whole)?;
+        push_groups(&mut self.list, text, captures, groups, 2)
     }
 
     fn push_all(&mut self, searcher: &mut Searcher, text: &str) -> Result<(), Error> {
         for captures in searcher.regex.captures_iter(text) {
             let captures = captures?;
-            self.push(&captures, &searcher.groups)?;
+            self.push(text, &captures, &searcher.groups)?;
         }
         Ok(())
     }
 }
 
 /// The matches of a text.
-pub fn found_in(alloc: Global, request: &Request, text: &str) -> Result<Found, Trouble> {
-    let mut searcher = searcher_of(alloc, request)?;
+pub fn found_in(request: &Request, text: &str) -> Result<Found, Trouble> {
+    let mut searcher = searcher_of(request)?;
     let mut found = Found {
-        spans: Vec::new(alloc),
-        paints: Vec::new(alloc),
-        list: String::new(alloc),
+        spans: Vec::new(request.alloc),
+        paints: Vec::new(request.alloc),
+        list: String::new(request.alloc),
     };
     match found.push_all(&mut searcher, text) {
         Ok(()) => Ok(found),
-        Err(error) => Err(searcher.refusal(alloc, request, &error)),
+        Err(error) => Err(search_trouble(error, searcher.regex.passed())),
     }
 }
 
-/// All matches: the lines in which they stand, and then each with its groups.
-pub fn all(alloc: Global, request: &Request, text: &str, colours: bool) -> Result<String, Trouble> {
-    let found = found_in(alloc, request, text)?;
+/// All matches: the lines in which they are, and then each with its groups.
+pub fn all(request: &Request, text: &str, colours: bool) -> Answer {
+    let found = found_in(request, text)?;
     if found.spans.is_empty() {
-        return no_match(alloc, request);
+        return no_match(request);
     }
-    let mut out = marked_lines(alloc, text, &found.spans, colours)?;
+    let mut out = marked_lines(request.alloc, text, &found.spans, colours)?;
     out.push_str(found.list.as_str())?;
     Ok(out)
 }

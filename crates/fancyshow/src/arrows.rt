@@ -1,5 +1,6 @@
 //! Where the instructions of a program lead.
 
+use crate::outcome::Written;
 use fancy_vm::vm::{Insn, Prog};
 use std::alloc::{AllocError, Global};
 
@@ -46,12 +47,7 @@ fn targets(place: usize, insn: &Insn) -> (Option<usize>, Option<usize>) {
 }
 
 /// Adds the arrow to this place, if there is one.
-fn push_arrow(
-    arrows: &mut Vec<Arrow>,
-    from: usize,
-    to: Option<usize>,
-    is_branch: bool,
-) -> Result<(), AllocError> {
+fn push_arrow(arrows: &mut Vec<Arrow>, from: usize, to: Option<usize>, is_branch: bool) -> Written {
     if let Some(to) = to {
         arrows.push(Arrow {
             from,

@@ -1,5 +1,6 @@
 //! The parentheses of a pattern: what each pair begins, and which leaves of the tree are in it.
 
+use crate::outcome::Written;
 use crate::source::Span;
 use std::alloc::{AllocError, Global};
 
@@ -93,7 +94,7 @@ impl<'p> Scanner<'p> {
         self.pattern.get(at..).unwrap_or("")
     }
 
-    fn open(&mut self, at: usize, opening: Opening) -> Result<(), AllocError> {
+    fn open(&mut self, at: usize, opening: Opening) -> Written {
         self.open.push(self.found.len())?;
         self.found.push(Pair {
             opening,
@@ -112,7 +113,7 @@ impl<'p> Scanner<'p> {
     }
 
     /// Passes the leaves at this byte, up to another; a conditional may begin with them.
-    fn pass(&mut self, at: usize, end: usize) -> Result<(), AllocError> {
+    fn pass(&mut self, at: usize, end: usize) -> Written {
         if self.rest(at).starts_with("(?(") {
             self.open(at, Opening::Conditional)?;
         }
@@ -132,13 +133,8 @@ impl<'p> Scanner<'p> {
         self.next = at.saturating_add(length).saturating_add(1);
     }
 
-    /// Whether the parenthesis at this byte is that of a condition, which is a pattern.
-    fn is_condition(&self, at: usize) -> bool {
-        self.pattern.get(..at).unwrap_or("").ends_with("(?")
-    }
-
     /// Reads the parenthesis at this byte.
-    fn read_opening(&mut self, at: usize) -> Result<(), AllocError> {
+    fn read_opening(&mut self, at: usize) -> Written {
         if self.rest(at).starts_with("(?#") {
             self.skip(at, ')');
             return Ok(());
@@ -146,33 +142,22 @@ impl<'p> Scanner<'p> {
         let (_, opening) = opening_of(self.rest(at));
         match (opening, flags_of(self.rest(at))) {
             (Opening::Plain, Some((_, ')'))) => self.open(at, Opening::Flags),
-            (Opening::Group, _) if self.is_condition(at) => self.open(at, Opening::Plain),
+            // that of a condition, which is a pattern
+            (Opening::Group, _) if self.pattern.get(..at).unwrap_or("").ends_with("(?") => {
+                self.open(at, Opening::Plain)
+            }
             _ => self.open(at, opening),
         }
     }
 
     /// Reads the character at this byte. What is no leaf and no parenthesis is passed, and so is a comment.
-    fn read(&mut self, at: usize, c: char) -> Result<(), AllocError> {
+    fn read(&mut self, at: usize, c: char) -> Written {
         match (self.spans.get(self.passed).copied(), c) {
-            (Some((start, end)), _) if start == at => self.pass(at, end),
-            (_, '(') => self.read_opening(at),
-            (_, ')') => {
-                self.close(at);
-                Ok(())
-            }
-            (_, '#') => {
-                self.skip(at, '\n');
-                Ok(())
-            }
-            _ => Ok(()),
-        }
-    }
-
-    fn read_all(&mut self) -> Result<(), AllocError> {
-        for (at, c) in self.pattern.char_indices() {
-            if at >= self.next {
-                self.read(at, c)?;
-            }
+            (Some((start, end)), _) if start == at => self.pass(at, end)?,
+            (_, '(') => self.read_opening(at)?,
+            (_, ')') => self.close(at),
+            (_, '#') => self.skip(at, '\n'),
+            _ => {}
         }
         Ok(())
     }
@@ -188,6 +173,10 @@ pub fn brackets(alloc: Global, pattern: &str, spans: &[Span]) -> Result<Vec<Pair
         passed: 0,
         next: 0,
     };
-    scanner.read_all()?;
+    for (at, c) in pattern.char_indices() {
+        if at >= scanner.next {
+            scanner.read(at, c)?;
+        }
+    }
     Ok(scanner.found)
 }

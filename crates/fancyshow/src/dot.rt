@@ -1,7 +1,8 @@
 //! A program for Graphviz.
 
 use crate::arrows::{Arrow, arrows};
-use crate::insns::label;
+use crate::list::label;
+use crate::outcome::Written;
 use fancy_vm::vm::{Insn, Prog};
 use std::alloc::{AllocError, Global};
 
@@ -15,34 +16,20 @@ fn style(insn: &Insn) -> &'static str {
     }
 }
 
-fn push_node(alloc: Global, out: &mut String, place: usize, insn: &Insn) -> Result<(), AllocError> {
-    let style = style(insn);
-    let label = label(alloc, place, insn)?;
-    writeln!(out, "  {place} [label={label:?}{style}];")
-}
-
-fn push_edge(out: &mut String, arrow: Arrow) -> Result<(), AllocError> {
-    let Arrow { from, to, .. } = arrow;
-    let style = if arrow.is_branch {
-        " [style=dashed]"
-    } else {
-        ""
-    };
-    writeln!(out, "  {from} -> {to}{style};")
-}
-
-fn push_graph(
-    alloc: Global,
-    out: &mut String,
-    prog: &Prog,
-    arrows: &[Arrow],
-) -> Result<(), AllocError> {
+fn push_graph(out: &mut String, prog: &Prog, arrows: &[Arrow]) -> Written {
     out.push_str("digraph program {\n  node [shape=box, fontname=monospace];\n")?;
     for (place, insn) in prog.body().iter().enumerate() {
-        push_node(alloc, out, place, insn)?;
+        let (label, style) = (label(*out.allocator(), place, insn)?, style(insn));
+        writeln!(out, "  {place} [label={label:?}{style}];")?;
     }
     for arrow in arrows {
-        push_edge(out, *arrow)?;
+        let Arrow {
+            from,
+            to,
+            is_branch,
+        } = *arrow;
+        let style = if is_branch { " [style=dashed]" } else { "" };
+        writeln!(out, "  {from} -> {to}{style};")?;
     }
     out.push_str("}\n")
 }
@@ -51,6 +38,6 @@ fn push_graph(
 pub fn dot(alloc: Global, prog: &Prog) -> Result<String, AllocError> {
     let arrows = arrows(alloc, prog)?;
     let mut out = String::new(alloc);
-    push_graph(alloc, &mut out, prog, &arrows)?;
+    push_graph(&mut out, prog, &arrows)?;
     Ok(out)
 }

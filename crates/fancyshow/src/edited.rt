@@ -1,16 +1,13 @@
 //! How few lines of a text an editor asks for anew after an edit.
 
+use crate::outcome::Written;
 use fancy_highlight::highlighter::Highlighter;
 use fancy_highlight::state::State;
 use std::alloc::{AllocError, Global};
 
 /// The lines of a text, with their line feeds.
 fn lines(alloc: Global, text: &str) -> Result<Vec<&str>, AllocError> {
-    let mut lines = Vec::new(alloc);
-    for line in text.split_inclusive('\n') {
-        lines.push(line)?;
-    }
-    Ok(lines)
+    text.split_inclusive('\n').collect(alloc)
 }
 
 /// The states before the lines, and that after the last one.
@@ -81,16 +78,17 @@ fn asked_for(
     Ok(count)
 }
 
-/// How many lines an editor asks for anew once the old text is the new one.
-pub fn lines_asked_for(
-    alloc: Global,
+/// Writes how many lines an editor asks for anew once the old text is the new one.
+pub fn push_asked_for(
+    out: &mut String,
     highlighter: &mut Highlighter,
     old: &str,
     new: &str,
-) -> Result<String, AllocError> {
+) -> Written {
+    let alloc = *out.allocator();
     let old = lines(alloc, old)?;
     let new = lines(alloc, new)?;
     let states = states(alloc, highlighter, &old)?;
     let count = asked_for(highlighter, &states, &old, &new)?;
-    format!(in alloc; "{count} of {} lines\n", new.len())
+    writeln!(out, "{count} of {} lines", new.len())
 }

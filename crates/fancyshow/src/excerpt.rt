@@ -1,6 +1,6 @@
 //! Lines of a text with marks under them, by the columns that characters take on a terminal.
 
-use std::alloc::AllocError;
+use crate::outcome::Written;
 use unicode_width::UnicodeWidthChar;
 
 /// How many columns the character takes as it is shown.
@@ -18,7 +18,7 @@ pub fn width(text: &str) -> usize {
 }
 
 /// Writes the line so that each character takes its columns: a space for a tab, a dot for another control character.
-pub fn push_shown(out: &mut String, line: &str) -> Result<(), AllocError> {
+pub fn push_shown(out: &mut String, line: &str) -> Written {
     for c in line.chars() {
         out.push(match c.width() {
             Some(_) => c,
@@ -29,7 +29,7 @@ pub fn push_shown(out: &mut String, line: &str) -> Result<(), AllocError> {
     Ok(())
 }
 
-pub fn push_times(out: &mut String, c: char, count: usize) -> Result<(), AllocError> {
+pub fn push_times(out: &mut String, c: char, count: usize) -> Written {
     for _ in 0..count {
         out.push(c)?;
     }
@@ -37,7 +37,7 @@ pub fn push_times(out: &mut String, c: char, count: usize) -> Result<(), AllocEr
 }
 
 /// Writes spaces up to a column of what was written from this byte on, two at least.
-pub fn push_to_column(out: &mut String, start: usize, column: usize) -> Result<(), AllocError> {
+pub fn push_to_column(out: &mut String, start: usize, column: usize) -> Written {
     let written = out.as_str().get(start..).unwrap_or("").chars().count();
     push_times(out, ' ', column.saturating_sub(written).max(2))
 }
@@ -72,23 +72,17 @@ fn dots(are_there: bool) -> &'static str {
 
 /// Writes the line with this byte of the text, and a caret below the byte, each after a line end. Of a long line only
 /// what is around the place is written.
-pub fn push_excerpt(out: &mut String, text: &str, at: usize) -> Result<(), AllocError> {
+pub fn push_excerpt(out: &mut String, text: &str, at: usize) -> Written {
     let before = text.get(..at).unwrap_or(text).split('\n').last();
     let behind = text.get(at..).unwrap_or("").split('\n').next();
     let (before, more_before) = tail(before.unwrap_or(""), BEFORE);
     let (behind, more_behind) = head(behind.unwrap_or(""), BEHIND);
     let first = dots(more_before);
-    out.push_str("\n  ")?;
-    out.push_str(first)?;
+    write!(out, "\n  {first}")?;
     push_shown(out, before)?;
     push_shown(out, behind)?;
-    out.push_str(dots(more_behind))?;
-    push_caret(out, first.len().saturating_add(width(before)))
-}
-
-/// Writes a caret on a line of its own, in this column of the line above it.
-fn push_caret(out: &mut String, column: usize) -> Result<(), AllocError> {
-    out.push_str("\n  ")?;
-    push_times(out, ' ', column)?;
+    let last = dots(more_behind);
+    write!(out, "{last}\n  ")?;
+    push_times(out, ' ', first.len().saturating_add(width(before)))?;
     out.push('^')
 }

@@ -2,13 +2,13 @@
 
 use crate::brackets::{Pair, flags_of};
 use crate::excerpt::{head, push_shown, push_times, push_to_column};
+use crate::html::group_class;
 use crate::located::{Located, Outline, joined, piece};
 use crate::marks::joined_text;
-use crate::outcome::Trouble;
-use crate::paint::group_class;
+use crate::outcome::{Answer, Trouble, Written};
 use crate::request::Request;
 use crate::source::{Span, read};
-use fancy_expr::expr::{Expr, ExprTree};
+use fancy_expr::expr::Expr;
 use fancy_expr::parts::part_count;
 use fancy_railroad::names::GroupNames;
 use fancy_railroad::words::{frame_words, push_loop, push_words};
@@ -24,11 +24,13 @@ pub struct Explained {
 }
 
 /// Writes what a node without children matches.
-pub fn push_leaf(out: &mut String, expr: &Expr, names: &GroupNames) -> Result<(), AllocError> {
+pub fn push_leaf(out: &mut String, expr: &Expr, names: &GroupNames) -> Written {
     match expr {
         Expr::Literal { val, casei } => push_literal(out, val.as_str(), *casei),
         Expr::Empty => out.push_str("the empty string"),
-        Expr::Delegate { inner, .. } if is_class(inner.as_str()) => {
+        // a class in brackets or a property
+        Expr::Delegate { inner, .. }
+            if matches!(inner.as_bytes(), [b'[', ..] | [b'\\', b'p' | b'P', ..]) => {
             out.push_str("a character of ")?;
             push_words(out, expr, names)
         }
@@ -36,13 +38,8 @@ pub fn push_leaf(out: &mut String, expr: &Expr, names: &GroupNames) -> Result<()
     }
 }
 
-/// Whether the text of a class is one in brackets or a property.
-fn is_class(text: &str) -> bool {
-    text.starts_with('[') || text.starts_with("\\p") || text.starts_with("\\P")
-}
-
 /// Writes a literal in quotes.
-fn push_literal(out: &mut String, text: &str, casei: bool) -> Result<(), AllocError> {
+fn push_literal(out: &mut String, text: &str, casei: bool) -> Written {
     let note = if casei { " in any case" } else { "" };
     write!(out, "{text:?}{note}")
 }
@@ -58,15 +55,15 @@ fn is_literal(expr: &Expr) -> bool {
 }
 
 /// Whether the node is said on a line of its own, as a part of this one.
-fn is_said(node: &Located<'_>, around: Option<&Expr>) -> bool {
-    match (node.expr, around) {
+fn is_said(node: &Located<'_>) -> bool {
+    match (node.expr, node.around) {
         (Expr::Concat(_), Some(Expr::Alt(_) | Expr::Conditional { .. })) => !is_literal(node.expr),
         (Expr::Concat(_), _) => false,
         (Expr::Empty, Some(Expr::Alt(_) | Expr::Conditional { .. }) | None) => true,
         (Expr::Empty, _) => false,
-        (Expr::Literal { .. }, Some(concat @ Expr::Concat(_))) => joined_text(
-            concat, node.place,
-        ).is_none(),
+        (Expr::Literal { .. }, Some(concat @ Expr::Concat(_))) => {
+            joined_text(concat, node.place).is_none()
+        }
         (Expr::AtomicGroup(body), _) => !matches!(&**body, Expr::Repeat { greedy: true, .. }),
         (expr, Some(Expr::Repeat { .. })) => part_count(expr) > 0,
         _ => true,
@@ -74,8 +71,8 @@ fn is_said(node: &Located<'_>, around: Option<&Expr>) -> bool {
 }
 
 /// What a part of a conditional is for.
-fn role(around: Option<&Expr>, place: usize) -> &'static str {
-    match (around, place) {
+fn role(node: &Located<'_>) -> &'static str {
+    match (node.around, node.place) {
         (Some(Expr::Conditional { .. }), 0) => "if: ",
         (Some(Expr::Conditional { .. }), 1) => "then: ",
         (Some(Expr::Conditional { .. }), _) => "otherwise: ",
@@ -106,20 +103,11 @@ fn flag_words(letter: char) -> &'static str {
     }
 }
 
-/// Writes what the letter of a flag says, which is set or cleared.
-fn push_flag(out: &mut String, letter: char, is_set: bool, scope: &str) -> Result<(), AllocError> {
-    let before = if out.is_empty() { "" } else { "; " };
-    let set = if is_set { "set" } else { "cleared" };
-    let words = flag_words(letter);
-    write!(out, "{before}{letter} is {set} {scope}: {words}")
-}
-
 /// What the letters of a flags item say, which end with this character.
 fn words_of_flags(alloc: Global, letters: &str, end: char) -> Result<String, AllocError> {
-    let scope = if end == ':' {
-        "in these parentheses"
-    } else {
-        "from here on"
+    let scope = match end {
+        ':' => "in these parentheses",
+        _ => "from here on",
     };
     let mut is_set = true;
     let mut out = String::new(alloc);
@@ -127,7 +115,10 @@ fn words_of_flags(alloc: Global, letters: &str, end: char) -> Result<String, All
         if letter == '-' {
             is_set = false;
         } else {
-            push_flag(&mut out, letter, is_set, scope)?;
+            let before = if out.is_empty() { "" } else { "; " };
+            let set = if is_set { "set" } else { "cleared" };
+            let words = flag_words(letter);
+            write!(out, "{before}{letter} is {set} {scope}: {words}")?;
         }
     }
     Ok(out)
@@ -142,33 +133,22 @@ struct Explainer<'x, 'e> {
     nodes: &'x [Located<'e>],
     /// The parentheses whose flags are not said.
     brackets: &'x [Pair],
-    /// The number of the last group.
-    group: usize,
     said: Vec<Explained>,
     /// How far what is below each node is indented.
     indents: Vec<usize>,
 }
 
 impl Explainer<'_, '_> {
-    /// The node around this one.
-    fn around(&self, node: &Located<'_>) -> Option<&Expr> {
-        match self.nodes.get(node.parent?) {
-            Some(around) => Some(around.expr),
-            None => None,
-        }
-    }
-
-    /// Whether the node is a literal that is said with the one before it.
-    fn joined_text(&self, node: &Located<'_>) -> Option<&str> {
-        joined_text(self.around(node)?, node.place)
-    }
-
     /// The literals that are said with the node at this index, and the span of all of them.
     fn run(&self, index: usize) -> Result<(String, Option<Span>), AllocError> {
         let mut text = String::new(self.alloc);
         let mut span = None;
         for (i, node) in self.nodes.get(index..).unwrap_or(&[]).iter().enumerate() {
-            match (self.joined_text(node), node.expr) {
+            let joined_text = match node.around {
+                Some(around) => joined_text(around, node.place),
+                None => None,
+            };
+            match (joined_text, node.expr) {
                 (Some(next), _) => text.push_str(next)?,
                 (None, Expr::Literal { val, .. }) if i == 0 => text.push_str(val.as_str())?,
                 _ if i == 0 => {}
@@ -180,7 +160,7 @@ impl Explainer<'_, '_> {
     }
 
     /// Writes how often a node is repeated, after what that is if it is a leaf.
-    fn push_repeat(&self, out: &mut String, node: &Located<'_>) -> Result<(), AllocError> {
+    fn push_repeat(&self, out: &mut String, node: &Located<'_>) -> Written {
         let Expr::Repeat {
             child,
             lo,
@@ -194,15 +174,17 @@ impl Explainer<'_, '_> {
             push_leaf(out, child, self.names)?;
             out.push_str(", ")?;
         }
-        let is_possessive = *greedy && matches!(self.around(node), Some(Expr::AtomicGroup(_)));
+        let is_possessive = *greedy && matches!(node.around, Some(Expr::AtomicGroup(_)));
         push_loop(out, (*lo, *hi), *greedy, is_possessive)
     }
 
     /// What is said of a node, whose literals have this text.
     fn words(&self, node: &Located<'_>, text: &str) -> Result<String, AllocError> {
-        let mut out = String::from_str(self.alloc, role(self.around(node), node.place))?;
+        let mut out = String::from_str(self.alloc, role(node))?;
         match node.expr {
-            Expr::Group(_) => self.names.push_group(&mut out, self.group)?,
+            Expr::Group(_) => self
+                .names
+                .push_group(&mut out, node.groups.saturating_add(1))?,
             Expr::Repeat { .. } => self.push_repeat(&mut out, node)?,
             Expr::Literal { casei, .. } => push_literal(&mut out, text, *casei)?,
             expr if part_count(expr) > 0 => out.push_str(fixed_words(expr))?,
@@ -212,7 +194,7 @@ impl Explainer<'_, '_> {
     }
 
     /// Says which flags are set up to this byte.
-    fn push_flags(&mut self, indent: usize, before: usize) -> Result<(), AllocError> {
+    fn push_flags(&mut self, indent: usize, before: usize) -> Written {
         for Pair { span, .. } in self.brackets {
             if span.0 > before {
                 break;
@@ -236,18 +218,13 @@ impl Explainer<'_, '_> {
     }
 
     /// Says what the node at this index is.
-    fn push_node(
-        &mut self,
-        index: usize,
-        node: &Located<'_>,
-        indent: usize,
-    ) -> Result<(), AllocError> {
+    fn push_node(&mut self, index: usize, node: &Located<'_>, indent: usize) -> Written {
         let (text, span) = self.run(index)?;
         if let Some((start, _)) = span {
             self.push_flags(indent, start)?;
         }
         let class = match node.expr {
-            Expr::Group(_) => group_class(self.group),
+            Expr::Group(_) => group_class(node.groups.saturating_add(1)),
             _ => "",
         };
         let words = self.words(node, text.as_str())?;
@@ -260,48 +237,35 @@ impl Explainer<'_, '_> {
         Ok(())
     }
 
-    /// Says what the node is, if it has a line of its own.
-    fn explain(&mut self, index: usize, node: &Located<'_>) -> Result<(), AllocError> {
-        let indent = match node.parent {
-            Some(parent) => self.indents.get(parent).copied().unwrap_or(0),
-            None => 0,
-        };
-        let is_said = is_said(node, self.around(node));
-        self.indents
-            .push(indent.saturating_add(usize::from(is_said)))?;
-        if matches!(node.expr, Expr::Group(_)) {
-            self.group = self.group.saturating_add(1);
-        }
-        if is_said {
-            self.push_node(index, node, indent)?;
-        }
-        Ok(())
-    }
-
-    fn explain_all(&mut self) -> Result<(), AllocError> {
+    /// Says what each node is that has a line of its own.
+    fn explain_all(&mut self) -> Written {
         let nodes = self.nodes;
         for (index, node) in nodes.iter().enumerate() {
-            self.explain(index, node)?;
+            // before the first node nothing is there
+            let indent = self.indents.get(node.parent).copied().unwrap_or(0);
+            let is_said = is_said(node);
+            self.indents
+                .push(indent.saturating_add(usize::from(is_said)))?;
+            if is_said {
+                self.push_node(index, node, indent)?;
+            }
         }
         self.push_flags(0, usize::MAX)
     }
 }
 
 /// What is said of each piece of the pattern that is asked about, or of each node of the tree.
-pub fn explanation(
-    alloc: Global,
-    request: &Request,
-    tree: &ExprTree,
-) -> Result<Vec<Explained>, AllocError> {
+pub fn explanation(request: &Request) -> Result<Vec<Explained>, Trouble> {
+    let tree = read(request)?;
+    let alloc = request.alloc;
     let names = GroupNames::new(alloc, &tree.named_groups)?;
-    let outline = Outline::of(alloc, request, &tree.expr)?;
+    let outline = Outline::of(request, &tree.expr)?;
     let mut explainer = Explainer {
         alloc,
         pattern: request.source.as_str(),
         names: &names,
         nodes: &outline.nodes,
         brackets: &outline.brackets,
-        group: 0,
         said: Vec::new(alloc),
         indents: Vec::new(alloc),
     };
@@ -315,7 +279,7 @@ const COLUMN: usize = 32;
 const SHOWN: usize = 40;
 
 /// Writes the piece and what is said of it, on a line.
-fn push_line(out: &mut String, request: &Request, said: &Explained) -> Result<(), AllocError> {
+fn push_line(out: &mut String, request: &Request, said: &Explained) -> Written {
     let start = out.len();
     push_times(out, ' ', said.indent.saturating_mul(2))?;
     if !request.is_tree {
@@ -324,22 +288,16 @@ fn push_line(out: &mut String, request: &Request, said: &Explained) -> Result<()
         out.push_str(if is_cut { ".." } else { "" })?;
         push_to_column(out, start, COLUMN)?;
     }
-    out.push_str(said.words.as_str())?;
-    out.push('\n')
-}
-
-/// The lines of what is said.
-fn lines(alloc: Global, request: &Request, said: &[Explained]) -> Result<String, AllocError> {
-    let mut out = String::new(alloc);
-    for it in said {
-        push_line(&mut out, request, it)?;
-    }
-    Ok(out)
+    let words = said.words.as_str();
+    writeln!(out, "{words}")
 }
 
 /// The pattern in words: each piece, and what it matches, below what it is a part of.
-pub fn explain(alloc: Global, request: &Request) -> Result<String, Trouble> {
-    let tree = read(alloc, request)?;
-    let said = explanation(alloc, request, &tree)?;
-    Ok(lines(alloc, request, &said)?)
+pub fn explain(request: &Request) -> Answer {
+    let said = explanation(request)?;
+    let mut out = String::new(request.alloc);
+    for it in &said {
+        push_line(&mut out, request, it)?;
+    }
+    Ok(out)
 }

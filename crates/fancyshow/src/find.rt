@@ -1,17 +1,16 @@
-//! The first match and its groups.
+//! The first match and its groups, or that there is none.
 
 ghost use Rattle.fancy_expr.specs.Sound.{IsWellFormedTree};
 
-use crate::excerpt::push_times;
-use crate::faults::tree_refusal;
-use crate::no_match::no_match;
-use crate::outcome::Trouble;
-use crate::refusals::search_refusal;
+use crate::excerpt::{head, push_times};
+use crate::faults::tree_trouble;
+use crate::marks::{Marked, MarkedLeaf};
+use crate::outcome::{Answer, Trouble, Written, search_trouble, warned};
 use crate::request::Request;
-use crate::source::read;
+use crate::source::{Span, read};
+use fancy_characters::classes::class_ranges;
 use fancy_characters::places::is_place;
-use fancy_expr::error::Error;
-use fancy_expr::expr::ExprTree;
+use fancy_expr::expr::{Expr, ExprTree};
 use fancy_matches::found::{Captures, Match};
 use fancy_matches::matcher::Matcher;
 use fancy_railroad::names::GroupNames;
@@ -22,20 +21,21 @@ use std::collections::BTreeMap;
 const SHOWN: usize = 60;
 
 /// The tree, compiled for searches.
-fn regex(alloc: Global, request: &Request, tree: &ExprTree) -> Result<Matcher, Trouble>
+fn regex(request: &Request, tree: &ExprTree) -> Result<Matcher, Trouble>
     requires { IsWellFormedTree tree.now }
 {
     let options = request.options();
     if !options.fits("") {
-        return Err(Trouble::Words(String::from_str(alloc, "these options do not fit together")?));
+        let why = "these options do not fit together";
+        return Err(Trouble::Words(String::from_str(request.alloc, why)?));
     }
-    match Matcher::new(alloc, tree, &options, request.arguments.backtracks) {
+    match Matcher::new(request.alloc, tree, &options, request.arguments.backtracks) {
         Ok(regex) => {
             let mut regex = regex;
             regex.limit(request.limits);
             Ok(regex)
         }
-        Err(error) => Err(tree_refusal(alloc, request, tree, &error)),
+        Err(error) => Err(tree_trouble(request, tree, error)?),
     }
 }
 
@@ -64,18 +64,11 @@ pub struct Searcher {
     pub numbers: BTreeMap<String, Vec<usize>>,
 }
 
-impl Searcher {
-    /// The trouble that an error of a search is.
-    pub fn refusal(&self, alloc: Global, request: &Request, error: &Error) -> Trouble {
-        search_refusal(alloc, request.source.as_str(), error, self.regex.passed())
-    }
-}
-
 /// The tree that is asked about, compiled for searches.
-pub fn searcher_of(alloc: Global, request: &Request) -> Result<Searcher, Trouble> {
-    let tree = read(alloc, request)?;
-    let groups = Groups::of(alloc, &tree)?;
-    let regex = regex(alloc, request, &tree)?;
+pub fn searcher_of(request: &Request) -> Result<Searcher, Trouble> {
+    let tree = read(request)?;
+    let groups = Groups::of(request.alloc, &tree)?;
+    let regex = regex(request, &tree)?;
     Ok(Searcher {
         regex,
         groups,
@@ -83,40 +76,50 @@ pub fn searcher_of(alloc: Global, request: &Request) -> Result<Searcher, Trouble
     })
 }
 
-/// Writes what the match takes, in quotes, or its beginning.
-pub fn push_taken(out: &mut String, taken: &str) -> Result<(), AllocError> {
-    match taken.char_indices().nth(SHOWN) {
-        Some((cut, _)) => {
-            let shown = taken.get(..cut).unwrap_or("");
-            write!(out, "{shown:?}..")
-        }
-        None => write!(out, "{taken:?}"),
+/// Writes where a part of the text is, and what is there in quotes, or its beginning.
+pub fn push_part(out: &mut String, text: &str, (start, end): Span) -> Written {
+    let (shown, is_cut) = head(text.get(start..end).unwrap_or(""), SHOWN);
+    let dots = if is_cut { ".." } else { "" };
+    writeln!(out, "{start}..{end}  {shown:?}{dots}")
+}
+
+/// Writes a group of a match on a line, where group 0 is the match: where it is, if it is set, and what it takes.
+pub fn push_group(
+    out: &mut String,
+    text: &str,
+    names: &GroupNames,
+    group: usize,
+    span: Option<Span>,
+) -> Written {
+    if group == 0 {
+        out.push_str("match")?;
+    } else {
+        names.push_group(out, group)?;
+    }
+    out.push_str("  ")?;
+    match span {
+        Some(span) => push_part(out, text, span),
+        None => out.push_str("not set\n"),
     }
 }
 
-/// Writes where the match stands and what it takes.
-pub fn push_match(out: &mut String, found: &Match<'_>) -> Result<(), AllocError> {
-    let (start, end) = (found.start(), found.end());
-    write!(out, "{start}..{end}  ")?;
-    push_taken(out, found.as_str())?;
-    out.push('\n')
+/// Where the match is.
+pub fn span_of(found: Match<'_>) -> Span {
+    (found.start(), found.end())
 }
 
 /// Writes each group of the match on a line of its own, after this many spaces.
 pub fn push_groups(
     out: &mut String,
+    text: &str,
     captures: &Captures<'_>,
     groups: &Groups,
     indent: usize,
-) -> Result<(), AllocError> {
+) -> Written {
     for group in 1..=groups.count {
         push_times(out, ' ', indent)?;
-        groups.names.push_group(out, group)?;
-        out.push_str("  ")?;
-        match captures.get(group) {
-            Some(found) => push_match(out, &found)?,
-            None => out.push_str("not set\n")?,
-        }
+        let span = captures.get(group).map(span_of);
+        push_group(out, text, &groups.names, group, span)?;
     }
     Ok(())
 }
@@ -128,43 +131,64 @@ pub fn no_place(alloc: Global, pos: usize) -> Result<Trouble, AllocError> {
 
 /// The first match from the place on where the search is to begin, and the groups of the tree.
 pub fn captures<'t>(
-    alloc: Global,
     request: &Request,
     text: &'t str,
 ) -> Result<(Option<Captures<'t>>, Groups), Trouble> {
     let pos = request.arguments.pos;
     if !is_place(text.as_bytes(), pos) {
-        return Err(no_place(alloc, pos)?);
+        return Err(no_place(request.alloc, pos)?);
     }
     let (found, passed, groups) = {
-        let mut searcher = searcher_of(alloc, request)?;
+        let mut searcher = searcher_of(request)?;
         let found = searcher.regex.captures_from(text, pos);
         (found, searcher.regex.passed(), searcher.groups)
     };
     match found {
         Ok(found) => Ok((found, groups)),
-        Err(error) => Err(search_refusal(alloc, request.source.as_str(), &error, passed)),
+        Err(error) => Err(search_trouble(error, passed)),
     }
 }
 
-/// Writes the match, and then each of its groups after this many spaces.
-pub fn push_found(
-    out: &mut String,
-    captures: &Captures<'_>,
-    groups: &Groups,
-    indent: usize,
-) -> Result<(), AllocError> {
-    push_match(out, &captures.whole())?;
-    push_groups(out, captures, groups, indent)
+/// The first match from a place on, with its groups.
+pub fn find(request: &Request, text: &str) -> Answer {
+    let (found, groups) = captures(request, text)?;
+    let Some(captures) = found else {
+        return no_match(request);
+    };
+    let mut out = String::from_str(request.alloc, "match  ")?;
+    push_part(&mut out, text, span_of(captures.whole()))?;
+    push_groups(&mut out, text, &captures, &groups, 0)?;
+    Ok(out)
 }
 
-/// The first match from a place on, with its groups.
-pub fn find(alloc: Global, request: &Request, text: &str) -> Result<String, Trouble> {
-    let (found, groups) = captures(alloc, request, text)?;
-    let Some(captures) = found else {
-        return no_match(alloc, request);
-    };
-    let mut out = String::from_str(alloc, "match  ")?;
-    push_found(&mut out, &captures, &groups, 0)?;
-    Ok(out)
+/// What is to be warned of: the first of these leaves that is a class without characters. Of a text that is no class
+/// nothing is known.
+fn warning_of(
+    alloc: Global,
+    leaves: &[MarkedLeaf<'_>],
+    unicode: bool,
+) -> Result<String, AllocError> {
+    for leaf in leaves {
+        if let Expr::Delegate { inner, casei } = leaf.expr {
+            let class = class_ranges(alloc, inner.as_str(), *casei, unicode)?;
+            if matches!(&class, Some(class) if class.ranges.is_empty()) {
+                return format!(in alloc; "the class {inner} matches no character");
+            }
+        }
+    }
+    Ok(String::new(alloc))
+}
+
+/// What is to be warned of in the tree that is asked about, if anything is.
+fn warning(request: &Request) -> Answer {
+    let tree = read(request)?;
+    let mut marked = Marked::new(request.alloc);
+    marked.push_tree(&tree.expr)?;
+    Ok(warning_of(request.alloc, &marked.leaves, !request.arguments.ascii)?)
+}
+
+/// That there is no match, with a warning of a class that matches no character.
+pub fn no_match(request: &Request) -> Answer {
+    let warning = warning(request)?;
+    warned(String::from_str(request.alloc, "no match\n")?, warning)
 }

@@ -44,17 +44,13 @@ impl Furthest {
         self.marks.get(..self.count).unwrap_or(&[])
     }
 
-    /// How many bytes the attempt matches.
-    fn len(&self) -> usize {
-        self.at.saturating_sub(self.start)
-    }
-
     /// A leaf fails at this place, in an attempt that began at `start`. It is further than those before if it is further in
     /// the tree, or as far and its attempt matches more, or as much and it is a later leaf.
     fn add(&mut self, start: usize, leaf: Leaf) {
         let is_there = start == self.start && leaf.at == self.at;
         let len = leaf.at.saturating_sub(start);
-        let is_further = (leaf.depth, len, leaf.mark) > (self.depth, self.len(), self.last);
+        let most = self.at.saturating_sub(self.start);
+        let is_further = (leaf.depth, len, leaf.mark) > (self.depth, most, self.last);
         if is_further && !is_there {
             *self = Furthest {
                 at: leaf.at,
@@ -97,36 +93,27 @@ struct Watch<'p> {
 }
 
 impl Watch<'_> {
-    /// The depth of the leaf with this mark.
-    fn depth_of(&self, mark: usize) -> usize {
-        match self.leaves.get(mark.saturating_sub(1)) {
-            Some(leaf) => leaf.depth,
-            None => 0,
-        }
-    }
-
     /// Before an instruction is executed.
     fn look(&mut self, stepper: &Stepper<'_>) {
         let place = stepper.pc();
         if let Some(mark) = mark_at(self.prog, place) {
             self.leaf = Some(Leaf {
                 mark,
-                depth: self.depth_of(mark),
+                depth: match self.leaves.get(mark.saturating_sub(1)) {
+                    Some(leaf) => leaf.depth,
+                    None => 0,
+                },
                 at: stepper.ix(),
                 branches: stepper.branches(),
             });
             return;
         }
         match self.prog.body().get(place) {
-            Some(Insn::Save(0)) if self.is_first(place) => self.start = stepper.ix(),
+            // an attempt begins with it; `\K` is such an instruction too
+            Some(Insn::Save(0)) if place <= 3 => self.start = stepper.ix(),
             Some(Insn::EndAtomic) => self.leaf = None,
             _ => {}
         }
-    }
-
-    /// Whether an attempt begins with the instruction at this place: `\K` is such an instruction too.
-    fn is_first(&self, place: usize) -> bool {
-        place <= 3
     }
 
     /// After an instruction was executed, with this many branches left: the leaf failed if one from before it was taken.

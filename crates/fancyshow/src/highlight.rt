@@ -1,13 +1,11 @@
-//! A text highlighted by the rules of a language.
+//! A text highlighted by the rules of a language, with warnings of rules that are left out.
 
-use crate::edited::lines_asked_for;
-use crate::html::{FOOT, HEAD};
-use crate::omitted::{push_missing, push_warnings};
-use crate::outcome::Trouble;
-use crate::request::{read_file, text_alone};
+use crate::edited::push_asked_for;
+use crate::html::{FOOT, HEAD, push_span};
+use crate::outcome::{Answer, Trouble, Written, warned};
+use crate::request::{given_text, or_input, read_file};
 use crate::styles::{Style, style_at, styles_of};
 use crate::tokens::push_tokens;
-use crate::{html, terminal};
 use clap::ArgMatches;
 use fancy_highlight::error::GrammarError;
 use fancy_highlight::highlighter::Highlighter;
@@ -52,75 +50,51 @@ fn highlighter_of(rt: &HostRuntime, matches: &ArgMatches<'_>) -> Result<Highligh
 /// The trouble that an error of the rules in this file is.
 fn refused_rules(alloc: Global, path: &str, error: &GrammarError) -> Result<Trouble, AllocError> {
     match error {
-        GrammarError::Memory => Ok(Trouble::Memory),
+        GrammarError::Memory => Err(AllocError),
         _ => Ok(Trouble::Refusal(format!(in alloc; "{path}: {error}")?)),
     }
 }
 
-/// Writes a part of the text in its style.
+/// Writes each token in the style of its scope.
 fn push_styled(
     out: &mut String,
     form: Form,
-    part: &str,
-    style: Option<Style>,
-) -> Result<(), AllocError> {
-    match form {
-        Form::Page => html::push_styled(out, part, style),
-        Form::Coloured => terminal::push_styled(out, part, style),
-        Form::Tokens | Form::Plain => out.push_str(part),
-    }
-}
-
-/// Writes each token in the style of its scope.
-fn push_all_styled(
-    out: &mut String,
-    form: Form,
-    styles: &[Option<Style>],
+    styles: &[Style],
     highlights: &Highlights,
     text: &str,
-) -> Result<(), AllocError> {
+) -> Written {
     for token in &highlights.tokens {
         let part = text.get(token.start..token.end).unwrap_or("");
-        push_styled(out, form, part, style_at(styles, token.scope))?;
+        let Style { class, code } = style_at(styles, token.scope);
+        match form {
+            Form::Page => push_span(out, part, class)?,
+            Form::Coloured if !code.is_empty() => {
+                write!(out, "\u{1b}[{code}m{part}\u{1b}[0m")?;
+            }
+            _ => out.push_str(part)?,
+        }
     }
     Ok(())
 }
 
-/// The text with colours, as a page or as it is.
-fn styled(
-    alloc: Global,
+/// Writes the text in the form.
+fn push_shown(
+    out: &mut String,
     form: Form,
     scopes: &Scopes,
     highlights: &Highlights,
     text: &str,
-) -> Result<String, AllocError> {
+) -> Result<(), Trouble> {
     let (head, foot) = match form {
         Form::Page => (HEAD, FOOT),
+        Form::Tokens => return push_tokens(out, scopes, highlights, text),
         _ => ("", ""),
     };
-    let styles = styles_of(alloc, scopes)?;
-    let mut out = String::from_str(alloc, head)?;
-    push_all_styled(&mut out, form, &styles, highlights, text)?;
+    let styles = styles_of(*out.allocator(), scopes)?;
+    out.push_str(head)?;
+    push_styled(out, form, &styles, highlights, text)?;
     out.push_str(foot)?;
-    Ok(out)
-}
-
-/// The text in the form.
-fn shown(
-    alloc: Global,
-    form: Form,
-    scopes: &Scopes,
-    highlights: &Highlights,
-    text: &str,
-) -> Result<String, Trouble> {
-    match form {
-        Form::Tokens => {
-            let mut out = String::new(alloc);
-            push_tokens(&mut out, alloc, scopes, highlights, text)?;
-            Ok(out)
-        }
-        _ => Ok(styled(alloc, form, scopes, highlights, text)?),
-    }
+    Ok(())
 }
 
 /// Reads the grammar of this name from the folder, if it is there.
@@ -184,8 +158,36 @@ fn highlights_of(
     Ok(highlights)
 }
 
+/// What separates a warning from those before it.
+fn separator(out: &str) -> &'static str {
+    if out.is_empty() { "" } else { "\nwarning: " }
+}
+
+/// Writes that a rule of this file is left out, from which byte on, and why.
+fn push_left_out(out: &mut String, file: &str, rule: &LeftOut) -> Written {
+    let separator = separator(out.as_str());
+    let (path, name, at, error) = (&rule.path, &rule.name, rule.at, &rule.error);
+    write!(out, "{separator}{file}: {path}")?;
+    if !name.is_empty() {
+        write!(out, " ({name})")?;
+    }
+    write!(out, ": {error}; the rule is left out from byte {at} on")
+}
+
+/// Writes that each of these includes names nothing.
+fn push_missing(out: &mut String, file: &str, includes: &[String]) -> Written {
+    for include in includes {
+        let separator = separator(out.as_str());
+        write!(
+            out,
+            "{separator}{file}: there is no {include}; what includes it does without"
+        )?;
+    }
+    Ok(())
+}
+
 /// What is to be warned of: includes that name nothing, and rules that are left out.
-fn warnings(
+fn warning(
     alloc: Global,
     path: &str,
     highlighter: &Highlighter,
@@ -194,39 +196,36 @@ fn warnings(
     let mut warning = String::new(alloc);
     push_missing(&mut warning, path, highlighter.missing())?;
     push_missing(&mut warning, path, highlighter.wanted())?;
-    push_warnings(&mut warning, path, left_out)?;
+    for rule in left_out {
+        push_left_out(&mut warning, path, rule)?;
+    }
     Ok(warning)
 }
 
-/// What is shown, with the warnings.
-fn warned(out: String, warning: String) -> Result<String, Trouble> {
-    if warning.is_empty() {
-        Ok(out)
-    } else {
-        Err(Trouble::Warned { out, warning })
+/// Writes the text, highlighted by these rules, or how few lines an editor asks for anew. Returns what is to be warned of.
+fn push_highlighted(
+    rt: &HostRuntime,
+    matches: &ArgMatches<'_>,
+    out: &mut String,
+    form: Form,
+    highlighter: &mut Highlighter,
+    text: &str,
+) -> Answer {
+    let highlights = highlights_of(rt, matches.get_str("grammars"), highlighter, text)?;
+    match matches.get_str("edited") {
+        None => push_shown(out, form, highlighter.scopes(), &highlights, text)?,
+        Some(path) => push_asked_for(out, highlighter, text, read_file(rt, path)?.as_str())?,
     }
+    let path = matches.get_str("rules").unwrap_or("");
+    Ok(warning(rt.alloc(), path, highlighter, &highlights.left_out)?)
 }
 
 /// The text, highlighted by the rules that the words name.
-pub fn highlight(
-    rt: &HostRuntime,
-    matches: &ArgMatches<'_>,
-    colours: bool,
-) -> Result<String, Trouble> {
-    let alloc = rt.alloc();
-    let mut highlighter = highlighter_of(rt, matches)?;
-    let text = text_alone(rt, matches)?;
-    let text = text.as_str();
-    let path = matches.get_str("rules").unwrap_or("");
-    let highlights = highlights_of(rt, matches.get_str("grammars"), &mut highlighter, text)?;
+pub fn highlight(rt: &HostRuntime, matches: &ArgMatches<'_>, colours: bool) -> Answer {
     let form = form_of(matches, colours);
-    let out = match matches.get_str("edited") {
-        None => shown(alloc, form, highlighter.scopes(), &highlights, text)?,
-        Some(edited) => {
-            let edited = read_file(rt, edited)?;
-            lines_asked_for(alloc, &mut highlighter, text, edited.as_str())?
-        }
-    };
-    let warning = warnings(alloc, path, &highlighter, &highlights.left_out)?;
+    let mut highlighter = highlighter_of(rt, matches)?;
+    let text = or_input(rt, given_text(rt, matches, matches.get_str("TEXT"))?)?;
+    let mut out = String::new(rt.alloc());
+    let warning = push_highlighted(rt, matches, &mut out, form, &mut highlighter, text.as_str())?;
     warned(out, warning)
 }

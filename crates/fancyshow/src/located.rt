@@ -1,23 +1,28 @@
 //! Where the nodes of a pattern's tree are in the pattern.
 
 use crate::brackets::{Opening, Pair, brackets};
+use crate::outcome::Written;
 use crate::request::Request;
 use crate::source::{Span, leaf_spans};
 use fancy_expr::expr::Expr;
 use fancy_expr::parts::{part, part_count};
 use fancy_faults::leaves::is_plain;
-use std::alloc::{AllocError, Global};
+use std::alloc::AllocError;
 
 /// A node of a tree. Its span is where it is in the pattern, with its parentheses and its quantifier. An empty string
 /// without parentheses has none, nor has a tree that was not read from a pattern.
 #[derive(Clone, Copy)]
 pub struct Located<'e> {
     pub expr: &'e Expr,
-    /// The index of the node that it is a part of, and which part it is.
-    pub parent: Option<usize>,
+    /// The node that it is a part of, the index of that one, and which part it is.
+    pub around: Option<&'e Expr>,
+    pub parent: usize,
     pub place: usize,
+    /// How many nodes it is in, and how many groups begin before it.
+    pub depth: usize,
+    pub groups: usize,
     /// Which leaves of the tree it is or has below it: from this one on and up to another.
-    leaves: Span,
+    pub leaves: Span,
     pub span: Option<Span>,
 }
 
@@ -39,11 +44,6 @@ fn leaf_length(text: &str) -> usize {
         Some(c) => c.len_utf8(),
         None => text.len(),
     }
-}
-
-fn leaf_span(pattern: &str, (start, end): Span) -> Span {
-    let length = leaf_length(piece(pattern, Some((start, end))));
-    (start, start.saturating_add(length))
 }
 
 /// What the quantifier at the front takes of a text, which white space may be before.
@@ -86,49 +86,44 @@ fn opening(expr: &Expr) -> Opening {
 #[derive(Drop)]
 struct Walk<'e> {
     nodes: Vec<Located<'e>>,
-    /// How many leaves are passed.
+    /// How many leaves and how many groups are passed.
     passed: usize,
+    groups: usize,
 }
 
 impl<'e> Walk<'e> {
-    fn open(
+    /// Adds the node, which is in so many others, and those below it.
+    fn add(
         &mut self,
         expr: &'e Expr,
-        parent: Option<usize>,
-        place: usize,
-    ) -> Result<(), AllocError> {
+        around: Option<&'e Expr>,
+        (parent, place): (usize, usize),
+        depth: usize,
+    ) -> Written {
+        let index = self.nodes.len();
         self.nodes.push(Located {
             expr,
+            around,
             parent,
             place,
+            depth,
+            groups: self.groups,
             leaves: (self.passed, self.passed),
             span: None,
         })?;
         if is_plain(expr) {
             self.passed = self.passed.saturating_add(1);
         }
-        Ok(())
-    }
-
-    fn close(&mut self, index: usize) {
+        if matches!(expr, Expr::Group(_)) {
+            self.groups = self.groups.saturating_add(1);
+        }
+        let below = depth.saturating_add(1);
+        for i in 0..part_count(expr) {
+            self.add(part(expr, i), Some(expr), (index, i), below)?;
+        }
         if let Some(node) = self.nodes.get_mut(index) {
             node.leaves.1 = self.passed;
         }
-    }
-
-    /// Adds the node and those below it.
-    fn add(
-        &mut self,
-        expr: &'e Expr,
-        parent: Option<usize>,
-        place: usize,
-    ) -> Result<(), AllocError> {
-        let index = self.nodes.len();
-        self.open(expr, parent, place)?;
-        for i in 0..part_count(expr) {
-            self.add(part(expr, i), Some(index), i)?;
-        }
-        self.close(index);
         Ok(())
     }
 }
@@ -159,6 +154,12 @@ impl Left<'_> {
     }
 }
 
+/// The span of a leaf, without what follows it there.
+fn leaf_span(pattern: &str, span: Span) -> Span {
+    let length = leaf_length(piece(pattern, Some(span)));
+    (span.0, span.0.saturating_add(length))
+}
+
 /// Gives each node its parentheses, and each leaf its span.
 fn set_brackets(nodes: &mut Vec<Located<'_>>, brackets: &[Pair], pattern: &str, spans: &[Span]) {
     let mut left = Left { brackets, next: 0 };
@@ -182,11 +183,17 @@ fn settle(nodes: &mut Vec<Located<'_>>, index: usize, pattern: &str) {
         let length = quantifier_length(pattern.get(end..).unwrap_or(""));
         node.span = Some((start, end.saturating_add(length)));
     }
-    let (span, parent) = (node.span, node.parent);
-    if let Some(parent) = parent {
-        if let Some(around) = nodes.get_mut(parent) {
-            around.span = joined(around.span, span);
-        }
+    let Located {
+        around: Some(_),
+        span,
+        parent,
+        ..
+    } = *node
+    else {
+        return;
+    };
+    if let Some(around) = nodes.get_mut(parent) {
+        around.span = joined(around.span, span);
     }
 }
 
@@ -198,30 +205,29 @@ pub struct Outline<'e> {
 }
 
 impl<'e> Outline<'e> {
-    fn locate(&mut self, pattern: &str, spans: &[Span]) {
-        set_brackets(&mut self.nodes, &self.brackets, pattern, spans);
-        for index in (0..self.nodes.len()).rev() {
-            settle(&mut self.nodes, index, pattern);
-        }
-    }
-
     /// Of the tree that the request asks about.
-    pub fn of(alloc: Global, request: &Request, expr: &'e Expr) -> Result<Outline<'e>, AllocError> {
+    pub fn of(request: &Request, expr: &'e Expr) -> Result<Outline<'e>, AllocError> {
         let mut walk = Walk {
-            nodes: Vec::new(alloc),
+            nodes: Vec::new(request.alloc),
             passed: 0,
+            groups: 0,
         };
-        walk.add(expr, None, 0)?;
-        let pattern = request.source.as_str();
-        let spans = leaf_spans(alloc, request)?;
+        walk.add(expr, None, (0, 0), 0)?;
+        let spans = leaf_spans(request)?;
         let is_known = !request.is_tree && spans.len() == walk.passed;
-        let mut outline = Outline {
-            nodes: walk.nodes,
-            brackets: brackets(alloc, if is_known { pattern } else { "" }, &spans)?,
+        let pattern = if is_known {
+            request.source.as_str()
+        } else {
+            ""
         };
+        let brackets = brackets(request.alloc, pattern, &spans)?;
+        let mut nodes = walk.nodes;
         if is_known {
-            outline.locate(pattern, &spans);
+            set_brackets(&mut nodes, &brackets, pattern, &spans);
+            for index in (0..nodes.len()).rev() {
+                settle(&mut nodes, index, pattern);
+            }
         }
-        Ok(outline)
+        Ok(Outline { nodes, brackets })
     }
 }

@@ -3,8 +3,6 @@
 
 mod all;
 mod arrows;
-mod batch;
-mod blame;
 mod brackets;
 mod commands;
 mod dot;
@@ -16,25 +14,19 @@ mod find;
 mod furthest;
 mod highlight;
 mod html;
-mod insns;
 mod list;
 mod located;
 mod marks;
-mod no_match;
 mod nodes;
-mod omitted;
 mod outcome;
 mod page;
-mod paint;
 mod pieces;
 mod railroad;
-mod refusals;
 mod request;
 mod show;
 mod source;
 mod styles;
 mod svg;
-mod terminal;
 mod tokens;
 mod trace;
 mod tree;
@@ -47,19 +39,17 @@ use std::io::{ErrorKind, IsTerminal, Write};
 use std::process::ExitCode;
 use std::{env, io};
 
+const OUT_OF_MEMORY: &[u8] = b"fancyshow: out of memory\n";
+
 /// The words after the program's own name.
 fn words(rt: &HostRuntime) -> io::Result<Vec<String>> {
     Ok(env::args(rt)?.skip(1).collect(rt.alloc())?)
 }
 
-/// Whether the terminal says that it has no colours.
-fn is_dumb(rt: &HostRuntime) -> bool {
-    matches!(env::var(rt, "TERM"), Ok(term) if term.as_str() == "dumb")
-}
-
 /// Colours are for a terminal that is not dumb, whose user has not set `NO_COLOR`.
 fn has_colours(rt: &HostRuntime) -> bool {
-    rt.stdout().is_terminal() && env::var(rt, "NO_COLOR").is_err() && !is_dumb(rt)
+    let is_dumb = matches!(env::var(rt, "TERM"), Ok(term) if term.as_str() == "dumb");
+    rt.stdout().is_terminal() && env::var(rt, "NO_COLOR").is_err() && !is_dumb
 }
 
 /// Writes the result of a command line, and returns the status: 3 if a write fails.
@@ -73,26 +63,25 @@ fn write(rt: &HostRuntime, outcome: &Outcome) -> u8 {
     }
 }
 
-/// There is no memory left, and nothing to write but that.
-fn refuse(rt: &HostRuntime) -> u8 {
-    let _unwritten = rt.stderr().write_all(b"fancyshow: out of memory\n");
-    1
+/// There is no result: writes why, and nothing is left to do if that fails.
+fn refuse(rt: &HostRuntime, why: &[u8], status: u8) -> u8 {
+    let _unwritten = rt.stderr().write_all(why);
+    status
+}
+
+/// Does what the words ask, and returns the status.
+fn run(rt: &HostRuntime) -> u8 {
+    let words = match words(rt) {
+        Ok(words) => words,
+        Err(error) if error.kind() == ErrorKind::OutOfMemory => return refuse(rt, OUT_OF_MEMORY, 1),
+        Err(_) => return refuse(rt, b"error: an argument is not valid UTF-8\n", 2),
+    };
+    match show(rt, &words, has_colours(rt)) {
+        Ok(outcome) => write(rt, &outcome),
+        Err(_) => refuse(rt, OUT_OF_MEMORY, 1),
+    }
 }
 
 fn main(rt: HostRuntime) -> ExitCode {
-    let words = match words(&rt) {
-        Ok(words) => words,
-        Err(error) if error.kind() == ErrorKind::OutOfMemory => return ExitCode::from(refuse(&rt)),
-        Err(_) => {
-            let _unwritten = rt
-                .stderr()
-                .write_all(b"error: an argument is not valid UTF-8\n");
-            return ExitCode::from(2);
-        }
-    };
-    let status = match show(&rt, &words, has_colours(&rt)) {
-        Ok(outcome) => write(&rt, &outcome),
-        Err(_) => refuse(&rt),
-    };
-    ExitCode::from(status)
+    ExitCode::from(run(&rt))
 }

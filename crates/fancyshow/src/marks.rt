@@ -4,6 +4,7 @@
 //! is in the program. A node with a mark is compiled by itself.
 
 use crate::nodes::{has_brackets, push_head, push_unquoted};
+use crate::outcome::Written;
 use fancy_expr::expr::{Absent, Expr};
 use fancy_expr::parts::{part, part_count};
 use fancy_vm::vm::{Insn, Prog};
@@ -52,11 +53,6 @@ fn has_marks_below(expr: &Expr, i: usize) -> bool {
     }
 }
 
-/// Whether the nodes below this one are alternatives, which all begin at the same depth.
-fn has_alternatives(expr: &Expr) -> bool {
-    matches!(expr, Expr::Alt(_) | Expr::Conditional { .. })
-}
-
 /// The characters of a child that follows a literal of a sequence, and is one that is folded alike.
 pub fn joined_text(expr: &Expr, i: usize) -> Option<&str> {
     let Expr::Concat(parts) = expr else {
@@ -80,44 +76,35 @@ impl<'e> Marked<'e> {
         }
     }
 
-    fn push_mark(&mut self, number: usize) -> Result<(), AllocError> {
+    fn push_mark(&mut self, number: usize) -> Written {
         let code = FIRST.saturating_add(number);
         let text = &mut self.text;
         write!(text, "(nahead (cat (verb fail) \"\\u{{{code:x}}}\")) ")
     }
 
-    /// Gives the node a mark, and answers its number.
-    fn add_leaf(&mut self, expr: &'e Expr) -> Result<usize, AllocError> {
-        self.leaves.push(MarkedLeaf {
-            expr,
-            index: self.passed,
-            depth: self.depth,
-        })?;
-        self.depth = self.depth.saturating_add(1);
-        Ok(self.leaves.len())
-    }
-
-    /// Begins a sequence with this mark.
-    fn push_opened(&mut self, number: usize) -> Result<bool, AllocError> {
+    /// Begins a sequence with the mark that the node has, if it has one. Returns whether it did.
+    fn open(&mut self, expr: &'e Expr) -> Result<bool, AllocError> {
+        let is_leaf = is_leaf(expr) && self.leaves.len() < MOST_LEAVES;
+        if !is_leaf && !matches!(expr, Expr::Conditional { .. }) {
+            return Ok(false);
+        }
+        let mut number = 0;
+        if is_leaf {
+            self.leaves.push(MarkedLeaf {
+                expr,
+                index: self.passed,
+                depth: self.depth,
+            })?;
+            self.depth = self.depth.saturating_add(1);
+            number = self.leaves.len();
+        }
         self.text.push_str("(cat ")?;
         self.push_mark(number)?;
         Ok(true)
     }
 
-    /// Begins a sequence with the mark that the node has, if it has one. Returns whether it did.
-    fn open(&mut self, expr: &'e Expr) -> Result<bool, AllocError> {
-        if is_leaf(expr) && self.leaves.len() < MOST_LEAVES {
-            let number = self.add_leaf(expr)?;
-            return self.push_opened(number);
-        }
-        match expr {
-            Expr::Conditional { .. } => self.push_opened(0),
-            _ => Ok(false),
-        }
-    }
-
     /// Writes the node and those below it, with marks where they are needed.
-    fn push_node(&mut self, expr: &'e Expr, has_marks: bool) -> Result<(), AllocError> {
+    fn push_node(&mut self, expr: &'e Expr, has_marks: bool) -> Written {
         let is_open = has_marks && self.open(expr)?;
         self.passed = self.passed.saturating_add(1);
         push_head(&mut self.text, expr)?;
@@ -131,10 +118,10 @@ impl<'e> Marked<'e> {
             let below = has_marks && has_marks_below(expr, i);
             self.push_node(part(expr, i), below)?;
             deepest = deepest.max(self.depth);
-            self.depth = if has_alternatives(expr) {
-                start
-            } else {
-                deepest
+            // alternatives all begin at the same depth
+            self.depth = match expr {
+                Expr::Alt(_) | Expr::Conditional { .. } => start,
+                _ => deepest,
             };
         }
         self.depth = deepest;
@@ -154,7 +141,7 @@ impl<'e> Marked<'e> {
     }
 
     /// Ends the node, and the sequence that began with its mark.
-    fn close(&mut self, expr: &Expr, is_open: bool) -> Result<(), AllocError> {
+    fn close(&mut self, expr: &Expr, is_open: bool) -> Written {
         if has_brackets(expr) {
             self.text.push(')')?;
         }
@@ -165,7 +152,7 @@ impl<'e> Marked<'e> {
     }
 
     /// Writes the whole tree with marks, and mark 0 after it.
-    pub fn push_tree(&mut self, expr: &'e Expr) -> Result<(), AllocError> {
+    pub fn push_tree(&mut self, expr: &'e Expr) -> Written {
         self.text.push_str("(cat ")?;
         self.push_node(expr, true)?;
         self.text.push(' ')?;
@@ -181,15 +168,12 @@ pub fn notation(alloc: Global, expr: &Expr) -> Result<String, AllocError> {
     Ok(written.text)
 }
 
-fn number_of(text: &str) -> Option<usize> {
-    let code = text.chars().next()? as usize;
-    code.checked_sub(FIRST)
-}
-
 /// The number of the mark that begins at this place of a program, if one does.
 pub fn mark_at(prog: &Prog, place: usize) -> Option<usize> {
     match prog.body().get(place..)? {
-        [Insn::Split(_, _), Insn::Fail, Insn::Lit(text), ..] => number_of(text.as_str()),
+        [Insn::Split(_, _), Insn::Fail, Insn::Lit(text), ..] => {
+            (text.as_str().chars().next()? as usize).checked_sub(FIRST)
+        }
         _ => None,
     }
 }

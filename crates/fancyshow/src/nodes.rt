@@ -1,7 +1,7 @@
 //! How a node of a tree is called: by the words of the notation, without what is below it.
 
+use crate::outcome::Written;
 use fancy_expr::expr::{Absent, Assertion, BacktrackingControlVerb, Expr, LookAround};
-use std::alloc::AllocError;
 
 fn assertion(assertion: Assertion) -> &'static str {
     match assertion {
@@ -24,43 +24,40 @@ fn assertion(assertion: Assertion) -> &'static str {
     }
 }
 
-fn look(look: LookAround) -> &'static str {
-    match look {
-        LookAround::LookAhead => "ahead",
-        LookAround::LookAheadNeg => "nahead",
-        LookAround::LookBehind => "behind",
-        LookAround::LookBehindNeg => "nbehind",
+fn word(expr: &Expr) -> &'static str {
+    match expr {
+        Expr::Empty => "empty",
+        Expr::Any { newline: true, .. } => "any",
+        Expr::Any { crlf: true, .. } => "dotcrlf",
+        Expr::Any { .. } => "dot",
+        Expr::Assertion(asserted) => assertion(*asserted),
+        Expr::GeneralNewline { unicode: true } => "nl",
+        Expr::GeneralNewline { unicode: false } => "nlascii",
+        Expr::Concat(_) => "cat",
+        Expr::Alt(_) => "alt",
+        Expr::LookAround(_, LookAround::LookAhead) => "ahead",
+        Expr::LookAround(_, LookAround::LookAheadNeg) => "nahead",
+        Expr::LookAround(_, LookAround::LookBehind) => "behind",
+        Expr::LookAround(_, LookAround::LookBehindNeg) => "nbehind",
+        Expr::AtomicGroup(_) => "atom",
+        Expr::KeepOut => "keep",
+        Expr::ContinueFromPreviousMatchEnd => "cont",
+        Expr::BacktrackingControlVerb(BacktrackingControlVerb::Fail) => "verb fail",
+        Expr::BacktrackingControlVerb(BacktrackingControlVerb::Accept) => "verb accept",
+        Expr::BacktrackingControlVerb(BacktrackingControlVerb::Commit) => "verb commit",
+        Expr::BacktrackingControlVerb(BacktrackingControlVerb::Skip) => "verb skip",
+        Expr::BacktrackingControlVerb(BacktrackingControlVerb::Prune) => "verb prune",
+        Expr::Conditional { .. } => "if",
+        Expr::Absent(Absent::Repeater(_)) => "absent",
+        Expr::Absent(Absent::Expression { .. }) => "absexp",
+        Expr::Absent(Absent::Stopper(_)) => "absstop",
+        Expr::Absent(Absent::Clear) => "absclear",
+        Expr::DefineGroup { .. } => "define",
+        _ => "unresolved",
     }
 }
 
-fn verb(verb: BacktrackingControlVerb) -> &'static str {
-    match verb {
-        BacktrackingControlVerb::Fail => "verb fail",
-        BacktrackingControlVerb::Accept => "verb accept",
-        BacktrackingControlVerb::Commit => "verb commit",
-        BacktrackingControlVerb::Skip => "verb skip",
-        BacktrackingControlVerb::Prune => "verb prune",
-    }
-}
-
-fn any(newline: bool, crlf: bool) -> &'static str {
-    match (newline, crlf) {
-        (true, _) => "any",
-        (false, true) => "dotcrlf",
-        (false, false) => "dot",
-    }
-}
-
-fn absent(absent: &Absent) -> &'static str {
-    match absent {
-        Absent::Repeater(_) => "absent",
-        Absent::Expression { .. } => "absexp",
-        Absent::Stopper(_) => "absstop",
-        Absent::Clear => "absclear",
-    }
-}
-
-fn push_loop(out: &mut String, lo: usize, hi: usize, greedy: bool) -> Result<(), AllocError> {
+fn push_loop(out: &mut String, lo: usize, hi: usize, greedy: bool) -> Written {
     let word = if greedy { "rep" } else { "lazy" };
     if hi == usize::MAX {
         write!(out, "{word} {lo} *")
@@ -69,7 +66,7 @@ fn push_loop(out: &mut String, lo: usize, hi: usize, greedy: bool) -> Result<(),
     }
 }
 
-fn push_bytes(out: &mut String, bytes: &[u8]) -> Result<(), AllocError> {
+fn push_bytes(out: &mut String, bytes: &[u8]) -> Written {
     out.push_str("bytes")?;
     for byte in bytes {
         write!(out, " {byte}")?;
@@ -77,29 +74,8 @@ fn push_bytes(out: &mut String, bytes: &[u8]) -> Result<(), AllocError> {
     Ok(())
 }
 
-fn word(expr: &Expr) -> &'static str {
-    match expr {
-        Expr::Empty => "empty",
-        Expr::Any { newline, crlf } => any(*newline, *crlf),
-        Expr::Assertion(asserted) => assertion(*asserted),
-        Expr::GeneralNewline { unicode: true } => "nl",
-        Expr::GeneralNewline { unicode: false } => "nlascii",
-        Expr::Concat(_) => "cat",
-        Expr::Alt(_) => "alt",
-        Expr::LookAround(_, direction) => look(*direction),
-        Expr::AtomicGroup(_) => "atom",
-        Expr::KeepOut => "keep",
-        Expr::ContinueFromPreviousMatchEnd => "cont",
-        Expr::BacktrackingControlVerb(named) => verb(*named),
-        Expr::Conditional { .. } => "if",
-        Expr::Absent(part) => absent(part),
-        Expr::DefineGroup { .. } => "define",
-        _ => "unresolved",
-    }
-}
-
-/// The word and the number of a node that has one. `group` is its number where it is a group.
-fn numbered(expr: &Expr, group: usize) -> Option<(&'static str, usize)> {
+/// The word and the number of a node that has one. `group` is its number if it is a group.
+pub fn numbered(expr: &Expr, group: usize) -> Option<(&'static str, usize)> {
     match expr {
         Expr::Group(_) => Some(("grp", group)),
         Expr::Backref { group, casei, .. } => Some((if *casei { "iref" } else { "ref" }, *group)),
@@ -110,61 +86,41 @@ fn numbered(expr: &Expr, group: usize) -> Option<(&'static str, usize)> {
     }
 }
 
-/// What stands before the quoted text of a node that has one, and the text.
-fn quoted(expr: &Expr) -> Option<(&'static str, &str)> {
-    match expr {
-        Expr::Literal { val, casei } => Some((if *casei { "i" } else { "" }, val.as_str())),
-        Expr::Delegate { inner, casei } => {
-            Some((if *casei { "iset " } else { "set " }, inner.as_str()))
-        }
-        _ => None,
-    }
-}
-
-/// The number of the group that the node is or names. `group` is its number where it is a group.
-pub fn group_of(expr: &Expr, group: usize) -> Option<usize> {
-    match numbered(expr, group) {
-        Some((_, number)) => Some(number),
-        None => None,
-    }
-}
-
-/// Writes what the node is called. `group` is its number where it is a group.
-pub fn push_node(out: &mut String, expr: &Expr, group: usize) -> Result<(), AllocError> {
+/// Writes what the node is called. `group` is its number if it is a group.
+pub fn push_node(out: &mut String, expr: &Expr, group: usize) -> Written {
     if let Some((word, number)) = numbered(expr, group) {
         return write!(out, "{word} {number}");
     }
-    push_unnumbered(out, expr)
-}
-
-fn push_unnumbered(out: &mut String, expr: &Expr) -> Result<(), AllocError> {
-    if let Some((before, text)) = quoted(expr) {
-        out.push_str(before)?;
-        return push_quoted(out, text);
-    }
     match expr {
+        Expr::Literal { val, casei: false } => push_quoted(out, "", val.as_str()),
+        Expr::Literal { val, .. } => push_quoted(out, "i", val.as_str()),
+        Expr::Delegate {
+            inner,
+            casei: false,
+        } => push_quoted(out, "set ", inner.as_str()),
+        Expr::Delegate { inner, .. } => push_quoted(out, "iset ", inner.as_str()),
         Expr::LiteralBytes { bytes } => push_bytes(out, bytes),
         Expr::Repeat { lo, hi, greedy, .. } => push_loop(out, *lo, *hi, *greedy),
         _ => out.push_str(word(expr)),
     }
 }
 
-/// Writes the text between quotes, as the notation has it.
-pub fn push_quoted(out: &mut String, text: &str) -> Result<(), AllocError> {
-    out.push('"')?;
+/// Writes the text between quotes, as the notation has it, after what is before them.
+pub fn push_quoted(out: &mut String, before: &str, text: &str) -> Written {
+    write!(out, "{before}\"")?;
     push_unquoted(out, text)?;
     out.push('"')
 }
 
 /// Writes the text as it stands between quotes.
-pub fn push_unquoted(out: &mut String, text: &str) -> Result<(), AllocError> {
+pub fn push_unquoted(out: &mut String, text: &str) -> Written {
     for c in text.chars() {
         push_character(out, c)?;
     }
     Ok(())
 }
 
-pub fn push_character(out: &mut String, c: char) -> Result<(), AllocError> {
+pub fn push_character(out: &mut String, c: char) -> Written {
     let code = c as u32;
     match c {
         '"' => out.push_str("\\\""),
@@ -187,7 +143,7 @@ pub fn has_brackets(expr: &Expr) -> bool {
 }
 
 /// Writes the node as the notation begins it, up to its children, with a bracket where it has one.
-pub fn push_head(out: &mut String, expr: &Expr) -> Result<(), AllocError> {
+pub fn push_head(out: &mut String, expr: &Expr) -> Written {
     if has_brackets(expr) {
         out.push('(')?;
     }

@@ -2,14 +2,12 @@
 
 use crate::all::{Found, found_in};
 use crate::explain::{Explained, explanation};
-use crate::html::push_escaped;
+use crate::html::{Paint, push_escaped, push_painted};
 use crate::list::list;
 use crate::located::piece;
-use crate::outcome::Trouble;
-use crate::paint::{Paint, push_painted};
+use crate::outcome::{Answer, Trouble, Written};
 use crate::railroad::railroad;
 use crate::request::Request;
-use crate::source::read;
 use crate::why::why;
 use std::alloc::{AllocError, Global};
 
@@ -47,38 +45,27 @@ fn group_paints(alloc: Global, explained: &[Explained]) -> Result<Vec<Paint>, Al
     Ok(paints)
 }
 
-/// Writes a line of the explanation: the piece, and what is said of it.
-fn push_line(out: &mut String, pattern: &str, line: &Explained) -> Result<(), AllocError> {
-    let indent = line.indent;
+/// Writes a line of the explanation: the piece, in the colour of the group that it is, and what is said of it.
+fn push_line(out: &mut String, pattern: &str, line: &Explained) -> Written {
+    let (indent, class, piece) = (line.indent, line.class, piece(pattern, line.span));
     write!(
         out,
         "<div class=\"line\" style=\"margin-left: {indent}rem\">"
     )?;
-    push_code(out, piece(pattern, line.span), line.class)?;
+    if !piece.is_empty() {
+        write!(out, "<code class=\"{class}\">")?;
+        push_escaped(out, piece)?;
+        out.push_str("</code> ")?;
+    }
     push_escaped(out, line.words.as_str())?;
     out.push_str("</div>\n")
 }
 
-/// Writes a piece of the pattern, if there is one, in the colour of the group that it is.
-fn push_code(out: &mut String, piece: &str, class: &str) -> Result<(), AllocError> {
-    if piece.is_empty() {
-        return Ok(());
-    }
-    write!(out, "<code class=\"{class}\">")?;
-    push_escaped(out, piece)?;
-    out.push_str("</code> ")
-}
-
 /// Writes the pattern with its groups in colours, and what is said of its pieces.
-fn push_explained(
-    alloc: Global,
-    out: &mut String,
-    pattern: &str,
-    explained: &[Explained],
-) -> Result<(), AllocError> {
-    let paints = group_paints(alloc, explained)?;
+fn push_explained(out: &mut String, pattern: &str, explained: &[Explained]) -> Written {
+    let paints = group_paints(*out.allocator(), explained)?;
     out.push_str("<h2>Pattern</h2>\n<pre>")?;
-    push_painted(alloc, out, pattern, &paints)?;
+    push_painted(out, pattern, &paints)?;
     out.push_str("</pre>\n<h2>In words</h2>\n")?;
     for line in explained {
         push_line(out, pattern, line)?;
@@ -86,105 +73,64 @@ fn push_explained(
     Ok(())
 }
 
-/// Writes the pattern, and what is said of its pieces.
-fn push_pattern(alloc: Global, out: &mut String, request: &Request) -> Result<(), Trouble> {
-    let explained = {
-        let tree = read(alloc, request)?;
-        explanation(alloc, request, &tree)?
-    };
-    push_explained(alloc, out, request.source.as_str(), &explained)?;
-    Ok(())
-}
-
-/// Writes the diagram of the pattern, or why it is not drawn.
-fn push_diagram(alloc: Global, out: &mut String, request: &Request) -> Result<(), Trouble> {
-    let drawn = match railroad(alloc, request) {
-        Err(Trouble::Refusal(why)) => why,
-        drawn => drawn?,
-    };
-    write!(
-        out,
-        "<h2>As a diagram</h2>\n<div class=\"diagram\">\n{drawn}</div>\n"
-    )?;
-    Ok(())
+/// The diagram of the pattern, or why it is not drawn.
+fn diagram(request: &Request) -> Answer {
+    match railroad(request) {
+        Err(Trouble::Refusal(why)) => Ok(why),
+        drawn => drawn,
+    }
 }
 
 /// Writes a part of the page that is shown as it is, under this heading.
-fn push_section(out: &mut String, heading: &str, part: &str) -> Result<(), AllocError> {
+fn push_section(out: &mut String, heading: &str, part: &str) -> Written {
     write!(out, "<h2>{heading}</h2>\n<pre>")?;
     push_escaped(out, part)?;
     out.push_str("</pre>\n")
 }
 
 /// Writes the text with its matches in colours, and then each match.
-fn push_found(
-    alloc: Global,
-    out: &mut String,
-    text: &str,
-    found: &Found,
-) -> Result<(), AllocError> {
+fn push_found(out: &mut String, text: &str, found: &Found) -> Written {
     out.push_str("<h2>Text</h2>\n<pre>")?;
-    push_painted(alloc, out, text, &found.paints)?;
+    push_painted(out, text, &found.paints)?;
     out.push_str("</pre>\n")?;
     push_section(out, "Matches", found.list.as_str())
 }
 
 /// Writes the matches in the text, or why there is none.
-fn push_text(
-    alloc: Global,
-    out: &mut String,
-    request: &Request,
-    text: &str,
-) -> Result<(), Trouble> {
-    let found = found_in(alloc, request, text)?;
+fn push_text(out: &mut String, request: &Request, text: &str) -> Result<(), Trouble> {
+    let found = found_in(request, text)?;
     if found.spans.is_empty() {
         push_section(out, "Text", text)?;
-        push_section(
-            out,
-            "Why there is no match",
-            why(alloc, request, text)?.as_str(),
-        )?;
+        push_section(out, "Why there is no match", why(request, text)?.as_str())?;
     } else {
-        push_found(alloc, out, text, &found)?;
+        push_found(out, text, &found)?;
     }
     Ok(())
 }
 
-/// Writes the program of the pattern.
-fn push_program(alloc: Global, out: &mut String, request: &Request) -> Result<(), Trouble> {
-    let list = list(alloc, request)?;
-    out.push_str("<details>\n<summary>The program</summary>\n<pre>")?;
-    push_escaped(out, list.as_str())?;
-    out.push_str("</pre>\n</details>\n")?;
-    Ok(())
-}
-
-fn push_head(out: &mut String, title: &str) -> Result<(), AllocError> {
+fn push_page(out: &mut String, request: &Request, text: Option<&str>) -> Result<(), Trouble> {
+    let pattern = request.source.as_str();
     out.push_str(HEAD)?;
-    push_escaped(out, title)?;
-    out.push_str("</title>\n</head>\n<body>\n")
-}
-
-fn push_page(
-    alloc: Global,
-    out: &mut String,
-    request: &Request,
-    text: Option<&str>,
-) -> Result<(), Trouble> {
-    push_head(out, request.source.as_str())?;
-    push_pattern(alloc, out, request)?;
-    push_diagram(alloc, out, request)?;
+    push_escaped(out, pattern)?;
+    out.push_str("</title>\n</head>\n<body>\n")?;
+    push_explained(out, pattern, &explanation(request)?)?;
+    let drawn = diagram(request)?;
+    write!(
+        out,
+        "<h2>As a diagram</h2>\n<div class=\"diagram\">\n{drawn}</div>\n"
+    )?;
     if let Some(text) = text {
-        push_text(alloc, out, request, text)?;
+        push_text(out, request, text)?;
     }
-    push_program(alloc, out, request)?;
-    out.push_str("</body>\n</html>\n")?;
+    out.push_str("<details>\n<summary>The program</summary>\n<pre>")?;
+    push_escaped(out, list(request)?.as_str())?;
+    out.push_str("</pre>\n</details>\n</body>\n</html>\n")?;
     Ok(())
 }
 
 /// The page of a pattern, and of a text if there is one.
-pub fn page(alloc: Global, request: &Request, text: Option<&str>) -> Result<String, Trouble> {
-    let mut out = String::new(alloc);
-    push_page(alloc, &mut out, request, text)?;
+pub fn page(request: &Request, text: Option<&str>) -> Answer {
+    let mut out = String::new(request.alloc);
+    push_page(&mut out, request, text)?;
     Ok(out)
 }

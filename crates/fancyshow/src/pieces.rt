@@ -1,8 +1,7 @@
 //! A text between its matches, and with its matches replaced.
 
 use crate::find::{Searcher, searcher_of};
-use crate::outcome::Trouble;
-use crate::refusals::{OVER_OUTPUT_LIMIT, over_limit};
+use crate::outcome::{Answer, Trouble, search_trouble, warned};
 use crate::request::Request;
 use fancy_expr::error::Error;
 use fancy_replace::output::BoundedText;
@@ -11,22 +10,16 @@ use fancy_replace::split::split;
 use fancy_replace::template::Template;
 use std::alloc::{AllocError, Global};
 
-/// What is written in the place of matches, and how many bytes the text may have then.
-#[derive(Clone, Copy)]
-pub struct Replacement<'r> {
-    pub template: &'r str,
-    pub most: usize,
-}
-
 /// The text with what the template writes in the place of each match; none if it has too many bytes.
 fn replaced_by(
     alloc: Global,
     searcher: &mut Searcher,
     text: &str,
-    replacement: Replacement<'_>,
+    template: &str,
+    most: usize,
 ) -> Result<Option<String>, Error> {
-    let template = Template::new(alloc, replacement.template, &searcher.numbers)?;
-    let mut out = BoundedText::new(alloc, replacement.most);
+    let template = Template::new(alloc, template, &searcher.numbers)?;
+    let mut out = BoundedText::new(alloc, most);
     if replace_into(&mut searcher.regex, text, 0, &template, &mut out)? {
         Ok(out.into_text())
     } else {
@@ -67,72 +60,52 @@ fn run_on(template: &str) -> Option<(&str, &str)> {
     None
 }
 
-/// The text if nothing is to be warned of: else that digits with letters after them are a name.
-fn warned(alloc: Global, out: String, template: &str) -> Result<String, Trouble> {
-    match run_on(template) {
-        None => Ok(out),
-        Some((digits, rest)) => Err(Trouble::Warned {
-            out,
-            warning: warning(alloc, digits, rest)?,
-        }),
-    }
-}
-
-/// What is warned of if the rest follows the digits.
-fn warning(alloc: Global, digits: &str, rest: &str) -> Result<String, AllocError> {
+/// What is warned of in a template, if anything is: that digits with letters after them are a name.
+fn warning(alloc: Global, template: &str) -> Result<String, AllocError> {
+    let Some((digits, rest)) = run_on(template) else {
+        return Ok(String::new(alloc));
+    };
     format!(in alloc;
         "${digits}{rest} is the group with this name; ${{{digits}}}{rest} is group {digits}, and then {rest}"
     )
 }
 
 /// The text with its matches replaced.
-fn replaced_text(
-    alloc: Global,
-    request: &Request,
-    text: &str,
-    replacement: Replacement<'_>,
-) -> Result<String, Trouble> {
-    let mut searcher = searcher_of(alloc, request)?;
-    match replaced_by(alloc, &mut searcher, text, replacement) {
+fn replaced_text(request: &Request, text: &str, template: &str, most: usize) -> Answer {
+    let mut searcher = searcher_of(request)?;
+    match replaced_by(request.alloc, &mut searcher, text, template, most) {
         Ok(Some(out)) => Ok(out),
-        Ok(None) => Err(over_limit(alloc, OVER_OUTPUT_LIMIT)?),
-        Err(error) => Err(searcher.refusal(alloc, request, &error)),
+        Ok(None) => Err(Trouble::Limit(
+            "the result exceeds the output limit (OutputLimitExceeded)\n  --max-output BYTES allows more",
+        )),
+        Err(error) => Err(search_trouble(error, searcher.regex.passed())),
     }
 }
 
 /// The same, and a line end where it has none.
-pub fn replaced(
-    alloc: Global,
-    request: &Request,
-    text: &str,
-    replacement: Replacement<'_>,
-) -> Result<String, Trouble> {
-    let mut out = replaced_text(alloc, request, text, replacement)?;
+pub fn replaced(request: &Request, text: &str, template: &str, most: usize) -> Answer {
+    let mut out = replaced_text(request, text, template, most)?;
     if !out.as_str().ends_with('\n') {
         out.push('\n')?;
     }
-    warned(alloc, out, replacement.template)
+    warned(out, warning(request.alloc, template)?)
 }
 
-/// Writes a piece in quotes, on a line.
-fn push_piece(out: &mut String, piece: &str) -> Result<(), AllocError> {
-    writeln!(out, "{piece:?}")
-}
-
-/// Writes each piece.
+/// Writes each piece in quotes, on a line.
 fn push_pieces(out: &mut String, searcher: &mut Searcher, text: &str) -> Result<(), Error> {
     for piece in split(&mut searcher.regex, text) {
-        push_piece(out, piece?)?;
+        let piece = piece?;
+        writeln!(out, "{piece:?}")?;
     }
     Ok(())
 }
 
 /// The pieces between the matches, each in quotes on a line of its own.
-pub fn pieces(alloc: Global, request: &Request, text: &str) -> Result<String, Trouble> {
-    let mut searcher = searcher_of(alloc, request)?;
-    let mut out = String::new(alloc);
+pub fn pieces(request: &Request, text: &str) -> Answer {
+    let mut searcher = searcher_of(request)?;
+    let mut out = String::new(request.alloc);
     match push_pieces(&mut out, &mut searcher, text) {
         Ok(()) => Ok(out),
-        Err(error) => Err(searcher.refusal(alloc, request, &error)),
+        Err(error) => Err(search_trouble(error, searcher.regex.passed())),
     }
 }

@@ -1,8 +1,9 @@
 //! What a part of the program is asked: a pattern or a tree, a text and options, from words, files and standard input.
 
-use crate::outcome::Trouble;
+use crate::outcome::{Answer, Trouble};
 use clap::ArgMatches;
 use fancy_command::arguments::Arguments;
+use fancy_pattern::options::ParseOptions;
 use fancy_search::search::SearchOptions;
 use fancy_vm::vm::SearchLimits;
 use std::alloc::{AllocError, Global};
@@ -20,12 +21,11 @@ const MOST_VISITS: u64 = 20_000_000;
 /// How many bytes a search may keep for them at one time, unless said otherwise.
 const MOST_MEMORY: usize = 268_435_456;
 
-/// How many bytes a text may have whose matches are replaced, unless said otherwise.
-const MOST_OUTPUT: usize = 268_435_456;
-
 /// A pattern or a tree, and how it is analysed, compiled and searched for.
 #[derive(Drop)]
 pub struct Request {
+    /// Where what is made for the request is allocated.
+    pub alloc: Global,
     pub source: String,
     /// The source is a tree, and no pattern.
     pub is_tree: bool,
@@ -37,6 +37,14 @@ pub struct Request {
 }
 
 impl Request {
+    /// How a pattern is read.
+    pub fn parsing(&self) -> ParseOptions {
+        ParseOptions {
+            unicode: !self.arguments.ascii,
+            ..ParseOptions::default()
+        }
+    }
+
     /// The options of searches from the text's start.
     pub fn options(&self) -> SearchOptions {
         Arguments {
@@ -48,24 +56,18 @@ impl Request {
 }
 
 /// The whole file, which is a text; for `-` standard input.
-pub fn read_file(rt: &HostRuntime, path: &str) -> Result<String, Trouble> {
-    if path == "-" {
-        return read_input(rt);
-    }
-    match fs::read_to_string(rt, path) {
+pub fn read_file(rt: &HostRuntime, path: &str) -> Answer {
+    let (read, what) = match path {
+        "-" => (
+            io::read_to_string(rt.alloc(), rt.reader()),
+            "standard input",
+        ),
+        _ => (fs::read_to_string(rt, path), path),
+    };
+    match read {
         Ok(text) => Ok(text),
         Err(error) => Err(Trouble::Words(format!(in rt.alloc();
-            "{path} cannot be read: {error}"
-        )?)),
-    }
-}
-
-/// All of standard input, which is a text.
-pub fn read_input(rt: &HostRuntime) -> Result<String, Trouble> {
-    match io::read_to_string(rt.alloc(), rt.reader()) {
-        Ok(text) => Ok(text),
-        Err(error) => Err(Trouble::Words(format!(in rt.alloc();
-            "standard input cannot be read: {error}"
+            "{what} cannot be read: {error}"
         )?)),
     }
 }
@@ -90,10 +92,13 @@ fn on_one_line(alloc: Global, text: &str) -> Result<String, AllocError> {
 const NO_PATTERN: &str =
     "there is no pattern: expected PATTERN, --pattern-file FILE or --tree-file FILE";
 
-const TWICE: &str = "the pattern is given twice, in a file and as a word";
+const PATTERN_TWICE: &str = "the pattern is given twice, in a file and as a word";
 
-fn missing(alloc: Global, what: &str) -> Result<Trouble, AllocError> {
-    Ok(Trouble::Words(String::from_str(alloc, what)?))
+const TEXT_TWICE: &str = "the text is given twice, in a file and as a word";
+
+/// The words ask nothing, for this reason.
+pub fn invalid(rt: &HostRuntime, why: &str) -> Result<Trouble, AllocError> {
+    Ok(Trouble::Words(String::from_str(rt.alloc(), why)?))
 }
 
 /// The source as it is in a file or a word, and the word that is left for the text.
@@ -106,19 +111,10 @@ fn read_source<'a>(
         .get_str("tree-file")
         .or(matches.get_str("pattern-file"));
     match (file, first, second) {
-        (Some(_), _, Some(_)) => Err(missing(rt.alloc(), TWICE)?),
+        (Some(_), _, Some(_)) => Err(invalid(rt, PATTERN_TWICE)?),
         (Some(path), word, None) => Ok((read_file(rt, path)?, word)),
         (None, Some(word), _) => Ok((String::from_str(rt.alloc(), word)?, second)),
-        (None, None, _) => Err(missing(rt.alloc(), NO_PATTERN)?),
-    }
-}
-
-/// The source as it is read: a tree on one line, a pattern without the line end of its file.
-fn prepared(alloc: Global, source: &str, is_tree: bool) -> Result<String, AllocError> {
-    if is_tree {
-        on_one_line(alloc, source)
-    } else {
-        String::from_str(alloc, source.strip_suffix('\n').unwrap_or(source))
+        (None, None, _) => Err(invalid(rt, NO_PATTERN)?),
     }
 }
 
@@ -129,47 +125,38 @@ fn read_request<'a>(
 ) -> Result<(Request, Option<&'a str>), Trouble> {
     let is_tree = matches.get_flag("tree") || matches.get_str("tree-file").is_some();
     let (source, word) = read_source(rt, matches)?;
+    // a tree is read on one line, a pattern without the line end of its file
+    let source = if is_tree {
+        on_one_line(rt.alloc(), source.as_str())?
+    } else {
+        String::from_str(
+            rt.alloc(),
+            source
+                .as_str()
+                .strip_suffix('\n')
+                .unwrap_or(source.as_str()),
+        )?
+    };
     let request = Request {
-        source: prepared(rt.alloc(), source.as_str(), is_tree)?,
+        alloc: rt.alloc(),
+        source,
         is_tree,
         arguments: arguments(matches),
         analysis_limit: matches
             .get_one::<usize>("analysis-limit")
             .unwrap_or(MOST_ANALYSED),
-        limits: limits(matches),
+        limits: SearchLimits {
+            visits: Some(matches.get_one::<u64>("visits").unwrap_or(MOST_VISITS)),
+            bytes: Some(matches.get_one::<usize>("memory").unwrap_or(MOST_MEMORY)),
+        },
     };
     Ok((request, word))
 }
 
-/// The text that a word or a file gives, if there is one.
-fn given_text(
-    rt: &HostRuntime,
-    matches: &ArgMatches<'_>,
-    word: Option<&str>,
-) -> Result<Option<String>, Trouble> {
-    match (matches.get_str("file"), word) {
-        (Some(_), Some(_)) => {
-            Err(missing(
-                rt.alloc(),
-                "the text is given twice, in a file and as a word",
-            )?)
-        }
-        (Some(path), None) => Ok(Some(read_file(rt, path)?)),
-        (None, Some("-")) => Ok(Some(read_input(rt)?)),
-        (None, Some(word)) => Ok(Some(String::from_str(rt.alloc(), word)?)),
-        (None, None) => Ok(None),
-    }
-}
-
-/// A text that no pattern is beside.
-pub fn text_alone(rt: &HostRuntime, matches: &ArgMatches<'_>) -> Result<String, Trouble> {
-    match given_text(rt, matches, matches.get_str("TEXT"))? {
-        Some(text) => Ok(text),
-        None => read_input(rt),
-    }
-}
-
 fn arguments(matches: &ArgMatches<'_>) -> Arguments {
+    let max_prog = matches
+        .get_one::<usize>("max-prog")
+        .or(Some(MOST_INSTRUCTIONS));
     Arguments {
         pos: matches.get_one::<usize>("pos").unwrap_or(0),
         compile_anchored: matches.get_flag("compile-anchored"),
@@ -181,53 +168,47 @@ fn arguments(matches: &ArgMatches<'_>) -> Arguments {
         longest: matches.get_flag("longest"),
         backtracks: matches.get_one::<usize>("backtracks"),
         steps: matches.get_one::<u64>("steps"),
-        max_prog: Some(
-            matches
-                .get_one::<usize>("max-prog")
-                .unwrap_or(MOST_INSTRUCTIONS),
-        ),
+        max_prog,
     }
 }
 
-fn limits(matches: &ArgMatches<'_>) -> SearchLimits {
-    SearchLimits {
-        visits: Some(matches.get_one::<u64>("visits").unwrap_or(MOST_VISITS)),
-        bytes: Some(matches.get_one::<usize>("memory").unwrap_or(MOST_MEMORY)),
+/// The text that a word or a file gives, if there is one.
+pub fn given_text(
+    rt: &HostRuntime,
+    matches: &ArgMatches<'_>,
+    word: Option<&str>,
+) -> Result<Option<String>, Trouble> {
+    match (matches.get_str("file"), word) {
+        (Some(_), Some(_)) => Err(invalid(rt, TEXT_TWICE)?),
+        (Some(path), None) => Ok(Some(read_file(rt, path)?)),
+        (None, Some("-")) => Ok(Some(read_file(rt, "-")?)),
+        (None, Some(word)) => Ok(Some(String::from_str(rt.alloc(), word)?)),
+        (None, None) => Ok(None),
     }
 }
 
-/// How many bytes the text may have in which matches are replaced.
-pub fn output_limit(matches: &ArgMatches<'_>) -> usize {
-    matches
-        .get_one::<usize>("max-output")
-        .unwrap_or(MOST_OUTPUT)
+/// The text that is given, or else standard input.
+pub fn or_input(rt: &HostRuntime, given: Option<String>) -> Answer {
+    match given {
+        Some(text) => Ok(text),
+        None => read_file(rt, "-"),
+    }
 }
 
 /// What is asked of a pattern or a tree alone.
 pub fn tree_request(rt: &HostRuntime, matches: &ArgMatches<'_>) -> Result<Request, Trouble> {
     match read_request(rt, matches)? {
         (request, None) => Ok(request),
-        (_, Some(_)) => Err(missing(rt.alloc(), TWICE)?),
+        (_, Some(_)) => Err(invalid(rt, PATTERN_TWICE)?),
     }
 }
 
 /// What is asked of a pattern or a tree, and a text if one is given.
-pub fn page_request(
+pub fn text_request(
     rt: &HostRuntime,
     matches: &ArgMatches<'_>,
 ) -> Result<(Request, Option<String>), Trouble> {
     let (request, word) = read_request(rt, matches)?;
     let text = given_text(rt, matches, word)?;
     Ok((request, text))
-}
-
-/// What is asked of a pattern or a tree and a text, and the text.
-pub fn text_request(
-    rt: &HostRuntime,
-    matches: &ArgMatches<'_>,
-) -> Result<(Request, String), Trouble> {
-    match page_request(rt, matches)? {
-        (request, Some(text)) => Ok((request, text)),
-        (request, None) => Ok((request, read_input(rt)?)),
-    }
 }

@@ -1,21 +1,17 @@
 //! From the words of a command line to its result.
 
 use crate::all::all;
-use crate::batch::{push_outcome, words_of};
 use crate::commands::command;
 use crate::dot::dot;
 use crate::explain::explain;
 use crate::find::find;
 use crate::highlight::highlight;
-use crate::list::{Shown, list, program};
-use crate::outcome::{Outcome, Trouble};
+use crate::list::{list, program};
+use crate::outcome::{Answer, Outcome, Trouble, Written, too_large};
 use crate::page::page;
-use crate::pieces::{Replacement, pieces, replaced};
+use crate::pieces::{pieces, replaced};
 use crate::railroad::railroad;
-use crate::refusals::too_large;
-use crate::request::{
-    Request, output_limit, page_request, read_file, read_input, text_request, tree_request,
-};
+use crate::request::{Request, invalid, or_input, read_file, text_request, tree_request};
 use crate::svg::{MOST_BOXES, svg};
 use crate::trace::trace;
 use crate::tree::tree;
@@ -23,113 +19,88 @@ use crate::why::why;
 use clap::ArgMatches;
 use std::alloc::{AllocError, Global};
 
-/// What the words say, or the help that they ask for.
+/// How many bytes a text may have whose matches are replaced, unless said otherwise.
+const MOST_OUTPUT: usize = 268_435_456;
+
+/// What the words say, or what the library says that reads them: what is wrong with them, or the help that they ask for.
 fn read_words<'a>(rt: &HostRuntime, words: &'a [String]) -> Result<ArgMatches<'a>, Trouble> {
     match command(rt.alloc())?.try_get_matches_from(words) {
         Ok(matches) => Ok(matches),
-        Err(error) => Err(told(rt.alloc(), &error)?),
+        Err(error) => {
+            let message = format!(in rt.alloc(); "{error}")?;
+            Err(if error.use_stderr() {
+                Trouble::Usage(message)
+            } else {
+                Trouble::Help(message)
+            })
+        }
     }
-}
-
-/// What the library says that reads the words: what is wrong with them, or the help that they ask for.
-fn told(alloc: Global, error: &clap::Error) -> Result<Trouble, AllocError> {
-    let message = format!(in alloc; "{error}")?;
-    Ok(if error.use_stderr() {
-        Trouble::Usage(message)
-    } else {
-        Trouble::Help(message)
-    })
 }
 
 /// The program as a picture.
-fn picture(alloc: Global, request: &Request, is_dot: bool) -> Result<String, Trouble> {
-    let Shown { prog, .. } = &program(alloc, request)?;
+fn picture(request: &Request, is_dot: bool) -> Answer {
+    let prog = &program(request)?.prog;
     if prog.body().len() > MOST_BOXES {
-        return Err(too_large(alloc, "program", MOST_BOXES, "instructions")?);
+        return Err(too_large(request.alloc, "program", MOST_BOXES, "instructions")?);
     }
-    if is_dot {
-        return Ok(dot(alloc, prog)?);
-    }
-    Ok(svg(alloc, prog, request.source.as_str())?)
+    Ok(if is_dot {
+        dot(request.alloc, prog)?
+    } else {
+        svg(request.alloc, prog, request.source.as_str())?
+    })
 }
 
 /// Reads what is asked of a tree, and answers it.
-fn answer_of_tree(
-    rt: &HostRuntime,
-    part: &str,
-    matches: &ArgMatches<'_>,
-) -> Result<String, Trouble> {
+fn answer_of_tree(rt: &HostRuntime, part: &str, matches: &ArgMatches<'_>) -> Answer {
     let request = tree_request(rt, matches)?;
     match part {
-        "list" => list(rt.alloc(), &request),
-        "tree" => tree(rt.alloc(), &request),
-        "explain" => explain(rt.alloc(), &request),
-        _ if matches.get_flag("railroad") => railroad(rt.alloc(), &request),
-        _ => picture(rt.alloc(), &request, matches.get_flag("dot")),
+        "list" => list(&request),
+        "tree" => tree(&request),
+        "explain" => explain(&request),
+        _ if matches.get_flag("railroad") => railroad(&request),
+        _ => picture(&request, matches.get_flag("dot")),
     }
 }
 
 /// Reads what is asked of a tree and a text, and answers it.
-fn answer_of_text(
-    rt: &HostRuntime,
-    part: &str,
-    matches: &ArgMatches<'_>,
-    colours: bool,
-) -> Result<String, Trouble> {
+fn answer_of_text(rt: &HostRuntime, part: &str, matches: &ArgMatches<'_>, colours: bool) -> Answer {
     let (request, text) = text_request(rt, matches)?;
+    let text = or_input(rt, text)?;
     let text = text.as_str();
     match part {
-        "find" => find(rt.alloc(), &request, text),
-        "all" => all(rt.alloc(), &request, text, colours),
-        "why" => why(rt.alloc(), &request, text),
-        "trace" => trace(rt.alloc(), &request, text),
-        _ => pieces(rt.alloc(), &request, text),
+        "find" => find(&request, text),
+        "all" => all(&request, text, colours),
+        "why" => why(&request, text),
+        "trace" => trace(&request, text),
+        "replace" => {
+            let most = matches
+                .get_one::<usize>("max-output")
+                .unwrap_or(MOST_OUTPUT);
+            replaced(&request, text, matches.get_str("with").unwrap_or(""), most)
+        }
+        _ => pieces(&request, text),
     }
 }
 
 /// Reads what a page is asked for, and writes it.
-fn page_answer(rt: &HostRuntime, matches: &ArgMatches<'_>) -> Result<String, Trouble> {
-    match page_request(rt, matches)? {
-        (request, Some(text)) => page(rt.alloc(), &request, Some(text.as_str())),
-        (request, None) => page(rt.alloc(), &request, None),
-    }
-}
-
-/// Reads what is to be replaced, and by what, and replaces it.
-fn replacement(rt: &HostRuntime, matches: &ArgMatches<'_>) -> Result<String, Trouble> {
+fn page_answer(rt: &HostRuntime, matches: &ArgMatches<'_>) -> Answer {
     let (request, text) = text_request(rt, matches)?;
-    let replacement = Replacement {
-        template: matches.get_str("with").unwrap_or(""),
-        most: output_limit(matches),
-    };
-    replaced(rt.alloc(), &request, text.as_str(), replacement)
+    page(&request, text.as_deref())
 }
 
-/// A batch has none in it.
-fn nested_batch(alloc: Global) -> Result<String, Trouble> {
-    let why = "a batch cannot contain this command";
-    Err(Trouble::Words(String::from_str(alloc, why)?))
-}
-
-/// The answer of a part other than `batch`.
-fn answer(
-    rt: &HostRuntime,
-    part: &str,
-    matches: &ArgMatches<'_>,
-    colours: bool,
-) -> Result<String, Trouble> {
+/// The answer of a part other than `batch`, which has none in it.
+fn answer(rt: &HostRuntime, part: &str, matches: &ArgMatches<'_>, colours: bool) -> Answer {
     match part {
         "list" | "tree" | "explain" | "picture" => answer_of_tree(rt, part, matches),
-        "replace" => replacement(rt, matches),
         "page" => page_answer(rt, matches),
         "highlight" => highlight(rt, matches, colours),
-        "batch" => nested_batch(rt.alloc()),
+        "batch" => Err(invalid(rt, "a batch cannot contain this command")?),
         _ => answer_of_text(rt, part, matches, colours),
     }
 }
 
 /// The answer of a command line in a batch.
-fn line_answer(rt: &HostRuntime, words: &[String]) -> Result<String, Trouble> {
+fn line_answer(rt: &HostRuntime, words: &[String]) -> Answer {
     let matches = read_words(rt, words)?;
     match matches.subcommand() {
         Some((part, matches)) => answer(rt, part, matches, false),
@@ -149,33 +120,26 @@ fn push_answer(rt: &HostRuntime, out: &mut String, line: &str) -> Result<bool, A
     Ok(outcome.status != 0)
 }
 
-/// Writes each line with its result. Returns whether one failed.
-fn push_answers(rt: &HostRuntime, out: &mut String, lines: &str) -> Result<bool, AllocError> {
-    let mut has_failed = false;
-    for line in lines.lines() {
-        has_failed |= push_answer(rt, out, line)?;
-    }
-    Ok(has_failed)
-}
-
 /// What each command line of a file gives.
-fn batch(rt: &HostRuntime, matches: &ArgMatches<'_>) -> Result<String, Trouble> {
-    let lines = match matches.get_str("FILE") {
-        Some(path) => read_file(rt, path)?,
-        None => read_input(rt)?,
-    };
+fn batch(rt: &HostRuntime, matches: &ArgMatches<'_>) -> Answer {
+    let lines = read_file(rt, matches.get_str("FILE").unwrap_or("-"))?;
     let mut out = String::new(rt.alloc());
-    if push_answers(rt, &mut out, lines.as_str())? {
-        return Err(Trouble::Refused(out));
+    let mut has_failed = false;
+    for line in lines.as_str().lines() {
+        has_failed |= push_answer(rt, &mut out, line)?;
     }
-    Ok(out)
+    if has_failed {
+        Err(Trouble::Refused(out))
+    } else {
+        Ok(out)
+    }
 }
 
 /// The answer of a command line.
-fn words_answer(rt: &HostRuntime, words: &[String], colours: bool) -> Result<String, Trouble> {
+fn words_answer(rt: &HostRuntime, words: &[String], colours: bool) -> Answer {
     let matches = read_words(rt, words)?;
     match matches.subcommand() {
-        Some((part, matches)) if part == "batch" => batch(rt, matches),
+        Some(("batch", matches)) => batch(rt, matches),
         Some((part, matches)) => answer(rt, part, matches, colours),
         None => Ok(String::new(rt.alloc())),
     }
@@ -184,4 +148,43 @@ fn words_answer(rt: &HostRuntime, words: &[String], colours: bool) -> Result<Str
 /// What the words come to. Where colours are asked for, those of a terminal mark the matches.
 pub fn show(rt: &HostRuntime, words: &[String], colours: bool) -> Result<Outcome, AllocError> {
     Outcome::of(rt.alloc(), words_answer(rt, words, colours))
+}
+
+/// The words of a line: spaces separate them, but not between two `'`.
+pub fn words_of(alloc: Global, line: &str) -> Result<Vec<String>, AllocError> {
+    let mut words = Vec::new(alloc);
+    let mut word = String::new(alloc);
+    let mut is_word = false;
+    let mut is_quoted = false;
+    for c in line.chars() {
+        if c == '\'' {
+            is_quoted = !is_quoted;
+            is_word = true;
+        } else if c != ' ' || is_quoted {
+            word.push(c)?;
+            is_word = true;
+        } else if is_word {
+            words.push(word)?;
+            word = String::new(alloc);
+            is_word = false;
+        }
+    }
+    if is_word {
+        words.push(word)?;
+    }
+    Ok(words)
+}
+
+/// Writes the line and what it came to, with the status if it is not 0.
+pub fn push_outcome(out: &mut String, line: &str, outcome: &Outcome) -> Written {
+    let Outcome {
+        out: printed,
+        err,
+        status,
+    } = outcome;
+    write!(out, "$ fancyshow {line}\n{printed}{err}")?;
+    if *status != 0 {
+        writeln!(out, "[status {status}]")?;
+    }
+    out.push('\n')
 }

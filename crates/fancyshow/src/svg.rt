@@ -3,7 +3,8 @@
 
 use crate::arrows::{Arrow, arrows};
 use crate::excerpt::width;
-use crate::insns::label;
+use crate::list::label;
+use crate::outcome::Written;
 use fancy_railroad::xml::push_escaped;
 use fancy_vm::vm::{Insn, Prog};
 use std::alloc::{AllocError, Global};
@@ -68,22 +69,20 @@ fn top(place: usize) -> usize {
     place.saturating_mul(STEP).saturating_add(MARGIN)
 }
 
-fn class(insn: &Insn) -> &'static str {
-    match insn {
-        Insn::Delegate(_) | Insn::AbsentRepeater(_) => " class=\"delegate\" rx=\"10\"",
-        Insn::End => " class=\"end\"",
-        _ => "",
-    }
-}
-
-/// Writes the box of an instruction, with its text.
+/// Writes the box of the instruction at this place, with its text.
 fn push_box(
     out: &mut String,
     Column { left, width }: Column,
-    top: usize,
-    class: &str,
+    place: usize,
+    insn: &Insn,
     label: &str,
-) -> Result<(), AllocError> {
+) -> Written {
+    let class = match insn {
+        Insn::Delegate(_) | Insn::AbsentRepeater(_) => " class=\"delegate\" rx=\"10\"",
+        Insn::End => " class=\"end\"",
+        _ => "",
+    };
+    let top = top(place);
     let (x, y) = (left.saturating_add(CHARACTER), top.saturating_add(16));
     write!(
         out,
@@ -93,49 +92,34 @@ fn push_box(
     out.push_str("</text>\n")
 }
 
-fn class_of(arrow: &Arrow) -> &'static str {
-    match (arrow.is_back(), arrow.is_branch) {
+/// Writes the path of an arrow: to the next box, or away from the boxes and back to them.
+fn push_path(out: &mut String, Column { left, width }: Column, arrow: &Arrow) -> Written {
+    let (from, to) = (top(arrow.from), top(arrow.to));
+    if arrow.is_short() {
+        let x = left.saturating_add(if arrow.is_branch { 36 } else { 24 });
+        let bottom = from.saturating_add(HEIGHT);
+        return write!(out, "M{x},{bottom}V{to}");
+    }
+    let right = left.saturating_add(width);
+    let (edge, x) = if arrow.is_back() {
+        (left, left.saturating_sub(reach(arrow)))
+    } else {
+        (right, right.saturating_add(reach(arrow)))
+    };
+    let (from, to) = (from.saturating_add(16), to.saturating_add(8));
+    write!(out, "M{edge},{from}C{x},{from} {x},{to} {edge},{to}")
+}
+
+fn push_arrow(out: &mut String, column: Column, arrow: &Arrow) -> Written {
+    let class = match (arrow.is_back(), arrow.is_branch) {
         (false, false) => "",
         (false, true) => " class=\"branch\"",
         (true, false) => " class=\"back\"",
         (true, true) => " class=\"back branch\"",
-    }
-}
-
-/// Writes the path of an arrow from a box to the one below it.
-fn push_short(out: &mut String, left: usize, arrow: &Arrow) -> Result<(), AllocError> {
-    let x = left.saturating_add(if arrow.is_branch { 36 } else { 24 });
-    let (from, to) = (top(arrow.from).saturating_add(HEIGHT), top(arrow.to));
-    write!(out, "M{x},{from}V{to}")
-}
-
-/// Writes the path of an arrow at this edge of the boxes, which goes away from them up to another place.
-fn push_long(out: &mut String, edge: usize, x: usize, arrow: &Arrow) -> Result<(), AllocError> {
-    let (from, to) = (
-        top(arrow.from).saturating_add(16),
-        top(arrow.to).saturating_add(8),
-    );
-    write!(out, "M{edge},{from}C{x},{from} {x},{to} {edge},{to}")
-}
-
-fn push_path(out: &mut String, column: Column, arrow: &Arrow) -> Result<(), AllocError> {
-    let Column { left, width } = column;
-    let right = left.saturating_add(width);
-    if arrow.is_short() {
-        push_short(out, left, arrow)
-    } else if arrow.is_back() {
-        push_long(out, left, left.saturating_sub(reach(arrow)), arrow)
-    } else {
-        push_long(out, right, right.saturating_add(reach(arrow)), arrow)
-    }
-}
-
-fn push_arrow(out: &mut String, column: Column, arrow: &Arrow) -> Result<(), AllocError> {
+    };
     out.push_str("<path d=\"")?;
     push_path(out, column, arrow)?;
-    out.push_str("\" marker-end=\"url(#head)\"")?;
-    out.push_str(class_of(arrow))?;
-    out.push_str("/>\n")
+    writeln!(out, "\" marker-end=\"url(#head)\"{class}/>")
 }
 
 /// What is in the box of each instruction, and how many columns the longest takes.
@@ -151,7 +135,7 @@ fn labels(alloc: Global, prog: &Prog) -> Result<(Vec<String>, usize), AllocError
 }
 
 /// Begins the picture with its size and its title, and writes the legend.
-fn push_head(out: &mut String, width: usize, bottom: usize, title: &str) -> Result<(), AllocError> {
+fn push_head(out: &mut String, width: usize, bottom: usize, title: &str) -> Written {
     let height = bottom.saturating_add(LEGEND_HEIGHT);
     write!(
         out,
@@ -172,9 +156,9 @@ fn push_all(
     column: Column,
     labels: &[String],
     arrows: &[Arrow],
-) -> Result<(), AllocError> {
+) -> Written {
     for (place, (insn, label)) in prog.body().iter().zip(labels.iter()).enumerate() {
-        push_box(out, column, top(place), class(insn), label.as_str())?;
+        push_box(out, column, place, insn, label.as_str())?;
     }
     for arrow in arrows {
         push_arrow(out, column, arrow)?;

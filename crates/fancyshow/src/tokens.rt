@@ -1,6 +1,6 @@
 //! The tokens of a text, one on a line.
 
-use crate::outcome::Trouble;
+use crate::outcome::{Trouble, Written};
 use fancy_highlight::scopes::Scopes;
 use fancy_highlight::tokens::{Highlights, Token};
 use std::alloc::{AllocError, Global};
@@ -20,53 +20,37 @@ fn names<'s>(alloc: Global, scopes: &'s Scopes, scope: usize) -> Result<Vec<&'s 
     Ok(names)
 }
 
-/// Writes the names of a scope, the outermost first, each behind a space.
-fn push_names(out: &mut String, names: &[&str]) -> Result<(), AllocError> {
-    for name in names.iter().rev() {
-        out.push(' ')?;
-        out.push_str(name)?;
-    }
-    Ok(())
-}
-
 /// How many bytes the lines of all tokens may have.
 const MOST_BYTES: usize = 268_435_456;
 
 /// Writes a token on a line: its first byte, the byte past its last, its text, and the names of its scopes, the
 /// outermost first.
-fn push_token(
-    out: &mut String,
-    token: Token,
-    part: &str,
-    names: &[&str],
-) -> Result<(), AllocError> {
+fn push_token(out: &mut String, token: Token, part: &str, names: &[&str]) -> Written {
     let (start, end) = (token.start, token.end);
     write!(out, "{start}..{end} {part:?}")?;
-    push_names(out, names)?;
+    for name in names.iter().rev() {
+        write!(out, " {name}")?;
+    }
     out.push('\n')
 }
 
 /// Writes each token of the text on a line, or the refusal of more lines than may be written.
 pub fn push_tokens(
     out: &mut String,
-    alloc: Global,
     scopes: &Scopes,
     highlights: &Highlights,
     text: &str,
 ) -> Result<(), Trouble> {
     for token in &highlights.tokens {
         let part = text.get(token.start..token.end).unwrap_or("");
-        let names = names(alloc, scopes, token.scope)?;
+        let names = names(*out.allocator(), scopes, token.scope)?;
         push_token(out, *token, part, &names)?;
         if out.len() > MOST_BYTES {
-            return Err(too_long(alloc, token.start)?);
+            let start = token.start;
+            return Err(Trouble::Refusal(format!(in *out.allocator();
+                "the lines of the tokens up to byte {start} of the text have more than {MOST_BYTES} bytes"
+            )?));
         }
     }
     Ok(())
-}
-
-fn too_long(alloc: Global, start: usize) -> Result<Trouble, AllocError> {
-    Ok(Trouble::Refusal(format!(in alloc;
-        "the lines of the tokens up to byte {start} of the text have more than {MOST_BYTES} bytes"
-    )?))
 }

@@ -2,20 +2,17 @@
 
 ghost use Rattle.fancy_expr.specs.Sound.{IsWellFormedTree};
 
-use crate::blame::{Node, is_blamed};
 use crate::excerpt::{push_shown, push_times, push_to_column};
 use crate::list::compile;
-use crate::nodes::{group_of, push_node};
-use crate::outcome::Trouble;
-use crate::refusals::refusal;
+use crate::located::{Located, Outline, piece};
+use crate::nodes::{numbered, push_node};
+use crate::outcome::{Answer, Trouble, Written};
 use crate::request::Request;
 use crate::source::{Span, leaf_spans, read};
 use fancy_analysis::analyze::analyze;
-use fancy_command::command::MOST_DEPTH;
 use fancy_expr::error::{CompileError, Error};
 use fancy_expr::expr::{Expr, ExprTree};
-use fancy_expr::parts::part_count;
-use fancy_faults::blame::Whole;
+use fancy_faults::blame::{Whole, is_at_fault, is_call, is_described, is_variable_look_behind};
 use fancy_faults::leaves::is_plain;
 use fancy_faults::words::words as refusal_words;
 use fancy_info::info::Info;
@@ -24,9 +21,6 @@ use std::alloc::{AllocError, Global};
 
 /// Where what is said of a node begins.
 const COLUMN: usize = 36;
-
-/// A text that is read is at most `MOST_DEPTH` deep, and its tree two levels deeper.
-const MOST_LEVELS: usize = MOST_DEPTH + 3;
 
 /// What is written about a tree.
 #[derive(Drop)]
@@ -37,8 +31,6 @@ struct Page<'r, 'p> {
     pattern: &'p str,
     /// Where the leaves are in the pattern, without those that are empty.
     spans: Vec<Span>,
-    /// How many of them are written.
-    passed: usize,
     /// Why the tree is refused.
     refused: Option<&'r CompileError>,
     tree: Whole,
@@ -46,8 +38,28 @@ struct Page<'r, 'p> {
     blamed: usize,
 }
 
+/// Whether the refusal of the whole tree may be for this node, if the next group has this number.
+fn is_blamed(
+    page: &Page<'_, '_>,
+    refused: &CompileError,
+    expr: &Expr,
+    group: usize,
+    info: Option<&Info<'_>>,
+) -> Result<bool, AllocError> {
+    match refused {
+        CompileError::LeftRecursiveSubroutineCall(text) => {
+            is_described(page.alloc, text.as_str(), expr, group)
+        }
+        CompileError::NeverEndingRecursion => Ok(is_call(expr)),
+        CompileError::VariableLookBehindRequiresFeature => {
+            Ok(matches!(info, Some(info) if is_variable_look_behind(info)))
+        }
+        _ => Ok(is_at_fault(refused, expr, page.tree)),
+    }
+}
+
 /// Writes how many characters a node takes.
-fn push_sizes(out: &mut String, least: usize, most: usize) -> Result<(), AllocError> {
+fn push_sizes(out: &mut String, least: usize, most: usize) -> Written {
     if most == usize::MAX {
         write!(out, "{least}..")
     } else if least == most {
@@ -57,86 +69,56 @@ fn push_sizes(out: &mut String, least: usize, most: usize) -> Result<(), AllocEr
     }
 }
 
-/// The words where the fact holds, and the others where it does not.
-fn words(holds: bool, words: &'static str, others: &'static str) -> &'static str {
-    if holds { words } else { others }
-}
-
 /// Writes how many characters a node takes, and what else holds of it.
-fn push_facts(out: &mut String, info: &Info<'_>) -> Result<(), AllocError> {
+fn push_facts(out: &mut String, info: &Info<'_>) -> Written {
     push_sizes(out, info.min_size(), info.max_size())?;
-    let hard = words(info.hard(), "hard", "easy");
-    let read = words(info.is_read(), ", read", "");
-    let around = words(info.in_look_around(), ", in a look-around", "");
+    let hard = if info.hard() { "hard" } else { "easy" };
+    let read = if info.is_read() { ", read" } else { "" };
+    let around = if info.in_look_around() {
+        ", in a look-around"
+    } else {
+        ""
+    };
     write!(out, ", {hard}{read}{around}")
 }
 
 impl Page<'_, '_> {
     /// Writes the name of the group that the node is or names, if it has one.
-    fn push_name(&mut self, node: Node<'_, '_>) -> Result<(), AllocError> {
-        let Some(group) = group_of(node.expr, node.group) else {
+    fn push_name(&mut self, expr: &Expr, group: usize) -> Written {
+        let Some((_, number)) = numbered(expr, group) else {
             return Ok(());
         };
-        match self.names.get(group) {
+        match self.names.get(number) {
             Some(name) => write!(self.out, " ({name})"),
             None => Ok(()),
         }
     }
 
-    /// Writes what the node is called, and what the analysis says of it.
-    fn push_said(&mut self, node: Node<'_, '_>, indent: usize) -> Result<(), AllocError> {
-        let start = self.out.len();
-        push_times(&mut self.out, ' ', indent)?;
-        push_node(&mut self.out, node.expr, node.group)?;
-        self.push_name(node)?;
-        match node.info {
-            Some(info) => self.push_info(node, info, start),
-            None => Ok(()),
-        }
-    }
-
-    /// Writes what the analysis says of the node, behind what was written from this byte on.
-    fn push_info(
-        &mut self,
-        node: Node<'_, '_>,
-        info: &Info<'_>,
-        start: usize,
-    ) -> Result<(), AllocError> {
-        push_to_column(&mut self.out, start, COLUMN)?;
-        push_facts(&mut self.out, info)?;
-        self.push_piece(node)
-    }
-
-    /// Writes where a leaf is in the pattern, and what is there.
-    fn push_piece(&mut self, node: Node<'_, '_>) -> Result<(), AllocError> {
-        if !is_plain(node.expr) {
-            return Ok(());
-        }
-        let span = self.spans.get(self.passed).copied();
-        self.passed = self.passed.saturating_add(1);
+    /// Writes where the leaf with this index is in the pattern, and what is there.
+    fn push_piece(&mut self, leaf: usize) -> Written {
+        let span = self.spans.get(leaf).copied();
         let Some((start, end)) = span else {
             return Ok(());
         };
-        let piece = self.pattern.get(start..end).unwrap_or("");
         write!(self.out, ", {start}..{end} ")?;
-        push_shown(&mut self.out, piece)
+        push_shown(&mut self.out, piece(self.pattern, span))
     }
 
-    /// Marks the node where the refusal speaks of it.
-    fn push_blame(&mut self, node: Node<'_, '_>) -> Result<(), AllocError> {
+    /// Marks the node if the refusal speaks of it.
+    fn push_blame(&mut self, expr: &Expr, group: usize, info: Option<&Info<'_>>) -> Written {
         let Some(refused) = self.refused else {
             return Ok(());
         };
-        if !is_blamed(self.alloc, refused, node, self.tree)? {
-            return Ok(());
+        if is_blamed(self, refused, expr, group, info)? {
+            self.blamed = self.blamed.saturating_add(1);
+            let words = refusal_words(self.alloc, refused, Some(expr))?;
+            write!(self.out, "  <- {words}")?;
         }
-        self.blamed = self.blamed.saturating_add(1);
-        let words = refusal_words(self.alloc, refused, Some(node.expr))?;
-        write!(self.out, "  <- {words}")
+        Ok(())
     }
 
     /// Writes why the tree is refused, where no node was marked.
-    fn push_refusal(&mut self) -> Result<(), AllocError> {
+    fn push_refusal(&mut self) -> Written {
         match self.refused {
             Some(refused) if self.blamed == 0 => {
                 let words = refusal_words(self.alloc, refused, None)?;
@@ -146,109 +128,93 @@ impl Page<'_, '_> {
         }
     }
 
-    fn push_line(&mut self, node: Node<'_, '_>, indent: usize) -> Result<(), AllocError> {
-        self.push_said(node, indent)?;
-        self.push_blame(node)?;
+    /// Writes what the node is called, what the analysis says of it, and whether it is refused.
+    fn push_line(&mut self, node: &Located<'_>, info: Option<&Info<'_>>) -> Written {
+        let group = self.tree.first.saturating_add(node.groups);
+        let start = self.out.len();
+        push_times(&mut self.out, ' ', node.depth.saturating_mul(2))?;
+        push_node(&mut self.out, node.expr, group)?;
+        self.push_name(node.expr, group)?;
+        if let Some(info) = info {
+            push_to_column(&mut self.out, start, COLUMN)?;
+            push_facts(&mut self.out, info)?;
+            if is_plain(node.expr) {
+                self.push_piece(node.leaves.0)?;
+            }
+        }
+        self.push_blame(node.expr, group, info)?;
         self.out.push('\n')
     }
 
-    /// Writes the node and those below it, and returns the number of the next group. Beyond this many levels nothing is
-    /// written.
-    fn push_all(
-        &mut self,
-        node: Node<'_, '_>,
-        indent: usize,
-        levels: usize,
-    ) -> Result<usize, AllocError> {
-        if levels == 0 {
-            return Ok(node.group);
+    /// Writes the nodes of a tree, of which the analysis says this, if it says anything.
+    fn push_all<'a>(&mut self, nodes: &[Located<'a>], root: Option<&Info<'a>>) -> Written {
+        let mut infos: Vec<Option<&Info<'a>>> = Vec::new(self.alloc);
+        for node in nodes {
+            let info = match (node.around, infos.get(node.parent)) {
+                (None, _) => root,
+                (Some(_), Some(Some(above))) => (*above).children().get(node.place),
+                _ => None,
+            };
+            infos.push(info)?;
+            self.push_line(node, info)?;
         }
-        self.push_line(node, indent)?;
-        let mut group = match node.expr {
-            Expr::Group(_) => node.group.saturating_add(1),
-            _ => node.group,
-        };
-        for i in 0..part_count(node.expr) {
-            let child = node.child(i, group);
-            group = self.push_all(child, indent.saturating_add(2), levels - 1)?;
-        }
-        Ok(group)
+        Ok(())
     }
 }
 
 /// The tree with what the analysis says, where it says anything, and with the nodes marked for which it is refused.
 fn write_page<'a>(
-    alloc: Global,
     request: &Request,
     tree: &'a ExprTree,
     info: Option<&Info<'a>>,
     refused: Option<&CompileError>,
 ) -> Result<String, AllocError> {
-    let whole = Whole::of(tree, request.arguments.analysis());
-    let root = Node {
-        expr: &tree.expr,
-        group: whole.first,
-        info,
-    };
+    let outline = Outline::of(request, &tree.expr)?;
     let mut page = Page {
-        alloc,
-        out: String::new(alloc),
-        names: GroupNames::new(alloc, &tree.named_groups)?,
+        alloc: request.alloc,
+        out: String::new(request.alloc),
+        names: GroupNames::new(request.alloc, &tree.named_groups)?,
         pattern: request.source.as_str(),
-        spans: leaf_spans(alloc, request)?,
-        passed: 0,
+        spans: leaf_spans(request)?,
         refused,
-        tree: whole,
+        tree: Whole::of(tree, request.arguments.analysis()),
         blamed: 0,
     };
-    page.push_all(root, 0, MOST_LEVELS)?;
+    page.push_all(&outline.nodes, info)?;
     page.push_refusal()?;
     Ok(page.out)
 }
 
 /// The refused tree, or the trouble of another error.
 fn refused_page<'a>(
-    alloc: Global,
     request: &Request,
     tree: &'a ExprTree,
     info: Option<&Info<'a>>,
-    error: &Error,
-) -> Result<String, Trouble> {
+    error: Error,
+) -> Answer {
     match error {
         Error::CompileError(refused) => {
-            let page = write_page(alloc, request, tree, info, Some(refused))?;
-            Err(Trouble::Refused(page))
+            Err(Trouble::Refused(write_page(request, tree, info, Some(&refused))?))
         }
-        _ => Err(refusal(alloc, request.source.as_str(), error)),
+        error => Err(Trouble::Engine(error)),
     }
 }
 
 /// The tree with what the analysis says.
-fn analysed_page<'a>(
-    alloc: Global,
-    request: &Request,
-    tree: &'a ExprTree,
-    info: &Info<'a>,
-) -> Result<String, Trouble>
+fn analysed_page<'a>(request: &Request, tree: &'a ExprTree, info: &Info<'a>) -> Answer
     requires { IsWellFormedTree tree.now }
 {
-    match compile(alloc, &request.arguments, tree) {
-        Ok(_) => Ok(write_page(alloc, request, tree, Some(info), None)?),
-        Err(error) => refused_page(alloc, request, tree, Some(info), &error),
-    }
-}
-
-fn page_of(alloc: Global, request: &Request, tree: &ExprTree) -> Result<String, Trouble>
-    requires { IsWellFormedTree tree.now }
-{
-    match analyze(alloc, tree, request.arguments.analysis()) {
-        Ok(info) => analysed_page(alloc, request, tree, &info),
-        Err(error) => refused_page(alloc, request, tree, None, &error),
+    match compile(request.alloc, &request.arguments, tree) {
+        Ok(_) => Ok(write_page(request, tree, Some(info), None)?),
+        Err(error) => refused_page(request, tree, Some(info), error),
     }
 }
 
 /// The tree, a node a line.
-pub fn tree(alloc: Global, request: &Request) -> Result<String, Trouble> {
-    let tree = read(alloc, request)?;
-    page_of(alloc, request, &tree)
+pub fn tree(request: &Request) -> Answer {
+    let tree = read(request)?;
+    match analyze(request.alloc, &tree, request.arguments.analysis()) {
+        Ok(info) => analysed_page(request, &tree, &info),
+        Err(error) => refused_page(request, &tree, None, error),
+    }
 }

@@ -1,10 +1,11 @@
 //! What is allowed at the place of a tree's text where it cannot be read on.
 
+use crate::outcome::Written;
 use fancy_expr::error::Error;
 use fancy_notation::forms::Form;
 use fancy_notation::tokens::{Placed, Token, tokens};
 use fancy_notation::words::form;
-use std::alloc::{AllocError, Global};
+use std::alloc::Global;
 
 /// What an open part of the text began with.
 #[derive(Clone, Copy)]
@@ -30,6 +31,16 @@ const QUOTE: &str = "a quote that ends the text";
 const ESCAPE: &str =
     "one of the escapes \\\" \\\\ \\n \\r and \\u{..} with the number of a character";
 
+/// What may follow in an open part.
+fn of_part(Part { head, count }: Part) -> &'static str {
+    match (head, count) {
+        (Head::Text, 0) => TREE,
+        (Head::Text, _) => "the end of the tree",
+        (Head::Parenthesis, _) => "a word that begins a form, as cat, alt, grp, rep or set",
+        (Head::Form(form), _) => of_form(form, count),
+    }
+}
+
 fn of_form(form: Form, count: usize) -> &'static str {
     match (form, count) {
         (Form::Alt, 0) => TREE,
@@ -48,81 +59,38 @@ fn of_form(form: Form, count: usize) -> &'static str {
     }
 }
 
-fn of_part(part: Part) -> &'static str {
-    match part.head {
-        Head::Text if part.count == 0 => TREE,
-        Head::Text => "the end of the tree",
-        Head::Parenthesis => "a word that begins a form, as cat, alt, grp, rep or set",
-        Head::Form(form) => of_form(form, part.count),
+/// Adds one thing to the innermost of the open parts.
+fn count_one(parts: &mut Vec<Part>) {
+    if let Some(part) = parts.last_mut() {
+        part.count = part.count.saturating_add(1);
     }
 }
 
-/// The open parts of a text that has been read up to some token, the text itself first.
-#[derive(Drop)]
-struct Parts {
-    parts: Vec<Part>,
-}
-
-impl Parts {
-    fn new(alloc: Global) -> Result<Parts, AllocError> {
-        let mut parts = Vec::new(alloc);
-        parts.push(Part {
-            head: Head::Text,
-            count: 0,
-        })?;
-        Ok(Parts { parts })
-    }
-
-    /// One thing more is in the innermost part.
-    fn count_one(&mut self) {
-        if let Some(part) = self.parts.last_mut() {
-            part.count = part.count.saturating_add(1);
+/// Reads one token more. Of a part that is opened, the one around it counts it when it is opened.
+fn take(parts: &mut Vec<Part>, token: &Token) -> Written {
+    match token {
+        Token::Opened => {
+            count_one(parts);
+            parts.push(Part {
+                head: Head::Parenthesis,
+                count: 0,
+            })?;
         }
-    }
-
-    fn take_word(&mut self, word: &str) {
-        if let Some(part) = self.parts.last_mut() {
-            match (part.head, form(word)) {
-                (Head::Parenthesis, Some(form)) => part.head = Head::Form(form),
-                _ => part.count = part.count.saturating_add(1),
+        Token::Closed => {
+            parts.pop();
+        }
+        Token::Word(word) => {
+            if let Some(part) = parts.last_mut() {
+                match (part.head, form(word.as_str())) {
+                    (Head::Parenthesis, Some(form)) => part.head = Head::Form(form),
+                    _ => part.count = part.count.saturating_add(1),
+                }
             }
         }
+        Token::Quoted { .. } => count_one(parts),
+        Token::Broken => {}
     }
-
-    /// Reads one token more. Of a part that is opened, the one around it counts it when it is opened.
-    fn take(&mut self, token: &Token) -> Result<(), AllocError> {
-        match token {
-            Token::Opened => {
-                self.count_one();
-                self.parts.push(Part {
-                    head: Head::Parenthesis,
-                    count: 0,
-                })?;
-            }
-            Token::Closed => {
-                self.parts.pop();
-            }
-            Token::Word(word) => self.take_word(word.as_str()),
-            Token::Quoted { .. } => self.count_one(),
-            Token::Broken => {}
-        }
-        Ok(())
-    }
-
-    /// What can follow the last token.
-    fn wanted(&self) -> &'static str {
-        match self.parts.last() {
-            Some(part) => of_part(*part),
-            None => TREE,
-        }
-    }
-}
-
-/// Where a text cannot be read on, and what was wanted there.
-#[derive(Clone, Copy)]
-pub struct Wanted {
-    pub at: usize,
-    pub words: &'static str,
+    Ok(())
 }
 
 /// The length of a character's number in braces, behind the first one.
@@ -163,32 +131,33 @@ fn wrong_escape(text: &str, from: usize) -> Option<usize> {
     None
 }
 
-/// What is wanted of a quoted text that is malformed: an escape where a wrong one stands, or a quote at its end.
-fn of_broken(text: &str, begin: usize) -> Wanted {
+/// Where a quoted text is malformed, and what is wanted there: an escape where a wrong one is, or a quote at its end.
+fn of_broken(text: &str, begin: usize) -> (usize, &'static str) {
     match wrong_escape(text, begin) {
-        Some(at) => Wanted { at, words: ESCAPE },
-        None => Wanted {
-            at: text.len(),
-            words: QUOTE,
-        },
+        Some(at) => (at, ESCAPE),
+        None => (text.len(), QUOTE),
     }
 }
 
-/// What was wanted at this byte of the text, where no tree can be read on.
-pub fn wanted_at(alloc: Global, text: &str, at: usize) -> Result<Wanted, Error> {
-    let mut parts = Parts::new(alloc)?;
+/// Where a text cannot be read on, as no tree goes on at this byte, and what is wanted there.
+pub fn wanted_at(alloc: Global, text: &str, at: usize) -> Result<(usize, &'static str), Error> {
+    // the open parts, the text itself first
+    let mut parts = vec![in alloc;
+        Part {
+            head: Head::Text,
+            count: 0
+        },
+    ]?;
     let placed = tokens(alloc, text)?;
     for Placed { at: begins, token } in placed.iter() {
-        if *begins >= at {
-            if matches!(token, Token::Broken) {
-                return Ok(of_broken(text, *begins));
-            }
-            break;
+        match token {
+            Token::Broken if *begins >= at => return Ok(of_broken(text, *begins)),
+            _ if *begins >= at => break,
+            _ => take(&mut parts, token)?,
         }
-        parts.take(token)?;
     }
-    Ok(Wanted {
-        at,
-        words: parts.wanted(),
+    Ok(match parts.last() {
+        Some(part) => (at, of_part(*part)),
+        None => (at, TREE),
     })
 }
