@@ -161,12 +161,13 @@ impl Compiled {
             };
             if is_place(text.as_bytes(), at) {
                 let here = attempt_at(options, at, left);
+                let before = runs.machine_work();
                 match attempt_into(alloc, &self.prog, text, &here, runs, numbers) {
                     Ok(true) => return Tried::Found(true),
                     Ok(false) => {}
                     Err(_) => return Tried::Unknown,
                 }
-                left = left.after(runs.machine_work());
+                left = left.after(runs.machine_work().saturating_sub(before));
             }
             from = at + 1;
         }

@@ -59,7 +59,7 @@ pub(crate) struct Room {
     visits: u64,
     /// How many attempts of single-delegate runs failed in all; one that took up many states counts as several.
     spent: usize,
-    /// What the machine of the last run did: its backtracks, and one for each eight instructions.
+    /// What the machine did in the attempts of the last search: its backtracks, and one for each eight instructions.
     work: u64,
 }
 
@@ -131,15 +131,15 @@ impl Scratch {
         self.room.cost()
     }
 
-    /// How much the last run did: its visits and backtracks, and one for each eight instructions. A run that exceeded a limit
-    /// counts with all instructions that it could have executed.
+    /// How much the attempts of the last search did: visits and backtracks, and one for each eight instructions. An attempt
+    /// that exceeded a limit counts with all instructions that it could have executed.
     pub fn work(&self) -> u64
         ensures { result ≡ work_of self.now }
     {
         self.room.cost().visits.saturating_add(self.room.work)
     }
 
-    /// How much the machine of the last run or attempt did: its backtracks, and one for each eight instructions.
+    /// How much the machine did in the attempts of the last search: its backtracks, and one for each eight instructions.
     pub fn machine_work(&self) -> u64
         ensures { result ≡ machine_work_of self.now }
     {
@@ -363,7 +363,6 @@ impl Room {
             (answer_in result numbers.new) }
         ensures memos { AreMemosIn task.now self.new.memos }
     {
-        self.work = 0;
         let Some(memos) = &mut self.memos else {
             unreachable!()
         };
@@ -481,7 +480,8 @@ impl Room {
             self.count_bytes(m.state.bytes());
         }
         let executed = m.task.options.step_limit.saturating_sub(m.left);
-        self.work = (executed / STEPS).saturating_add(m.backtracks as u64);
+        let done = (executed / STEPS).saturating_add(m.backtracks as u64);
+        self.work = self.work.saturating_add(done);
     }
 
     /// The machine of the run held so many bytes.
